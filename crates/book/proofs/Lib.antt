@@ -1,0 +1,5 @@
+pub mod Records
+pub mod InRange
+pub mod Rising
+pub mod Bids
+pub mod Accepted

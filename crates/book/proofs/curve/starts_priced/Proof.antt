@@ -1,0 +1,80 @@
+use Prim.Native.Nat.{_≤_, _-_}
+use mathlib.Core.Path.{_≡_, refl, sym, _∙_}
+use native.Mathlib.Omega.{arith}
+use borrow.Author.Needs.{needs}
+use lib.ListN.{length, take}
+use lib.Seq.{slice}
+use Rattle.lists.specs.Every.{every}
+use Rattle.lists.proofs.Tests.{passed, failed}
+use Rattle.lists.proofs.Slices.{length-held}
+use Rattle.lists.proofs.Everywhere.{every-next, every-stop, every-done, every-within}
+use Rattle.book.specs.Rules.{segmentInRange, startPriced}
+use Rattle.book.proofs.Records.{noSegment}
+use Rattle.book.proofs.curve.starts_priced.Statement.{statement}
+use Rattle.book.proofs.curve.starts_priced.Tie as tie
+
+abbrev Inv-loop : tie.InvT-loop
+Inv-loop bid i₀ i = (i ≤ bid .count) × (every startPriced (take (bid .count) (bid .segments)) ≡ every startPriced (slice i (bid .count) (bid .segments)))
+
+abbrev μ-loop : tie.MeasureT-loop
+μ-loop bid i₀ i = bid .count - i
+
+-- the record holds at least as many segments as it counts
+held : (c : tie.In-loop Inv-loop μ-loop) → c .before .before .args .t1 .count ≤ length (c .before .before .args .t1 .segments)
+held c = let h : length (c .before .before .args .t1 .segments) ≡ 6 = search (length-held, c .before .before .good) in omega arith
+
+loop-holds : tie.Need-loop-holds Inv-loop μ-loop
+loop-holds c = (omega arith, refl)
+
+mul-s : tie.Need-mul-s Inv-loop μ-loop
+mul-s c = search needs
+
+element-copy-out-s : tie.Need-element-copy-out-s Inv-loop μ-loop
+element-copy-out-s c = search needs
+
+start-priced-requires : tie.Need-start-priced-requires Inv-loop μ-loop
+start-priced-requires c κs =
+    let l = c .before in
+    let b = l .before .before .args .t1 in
+    every-within segmentInRange (b .segments) (l .before .loop .i) (b .count) noSegment (l .loop-test .taken) (held l) (l .before .before .pre .1)
+
+returns : tie.Need-returns Inv-loop μ-loop
+returns c =
+    let l = c .before .before .before in
+    let b = l .before .before .args .t1 in
+    sym (l .before .loop .inv .1 ∙ every-stop startPriced (b .segments) (l .before .loop .i) (b .count) noSegment (l .loop-test .taken) (held l) (failed (c .before .start-priced .ensures) (c .if1 .taken)))
+
+add-i : tie.Need-add-i Inv-loop μ-loop
+add-i c = search needs
+
+loop-less : tie.Need-loop-less Inv-loop μ-loop
+loop-less c = search needs
+
+loop-again : tie.Need-loop-again Inv-loop μ-loop
+loop-again c =
+    let l = c .before .before .before in
+    let b = l .before .before .args .t1 in (
+      omega arith,
+      l .before .loop .inv .1 ∙ every-next startPriced (b .segments) (l .before .loop .i) (b .count) noSegment (l .loop-test .taken) (held l) (passed (c .before .start-priced .ensures) (c .if1 .left)),
+    )
+
+returns-2 : tie.Need-returns-2 Inv-loop μ-loop
+returns-2 c =
+    let b = c .before .before .args .t1 in
+    sym (c .before .loop .inv .1 ∙ every-done startPriced (b .segments) (c .before .loop .i) (b .count) (c .before .loop .inv .0) (c .loop-test .left))
+
+pub starts-priced-spec : {M : Type 1} → statement M
+starts-priced-spec =
+    tie.close
+    (tie.spec
+    Inv-loop
+    μ-loop
+    loop-holds
+    mul-s
+    element-copy-out-s
+    start-priced-requires
+    returns
+    add-i
+    loop-less
+    loop-again
+    returns-2)

@@ -1,0 +1,30 @@
+-- What a record means: the entries within its counts. Entries past the counts are ignored.
+use Prim.Native.Nat.{ℕ}
+use mathlib.Core.List.{List, map}
+use mathlib.Core.Path.{_≡_}
+use lib.ListN.{take}
+use Rattle.book.specs.declared.Segment.{Segment}
+use Rattle.book.specs.declared.Bid.{Bid}
+use Rattle.book.specs.declared.Book.{Book}
+
+-- A bid: the bidder number, how many segments it has, and those that the record holds.
+pub record BidEntries : Type 0 where
+  pub bidder : ℕ
+  pub count : ℕ
+  pub segments : List Segment
+
+-- A bid book: the demand in blanks, how many bids it has, and those that the record holds.
+pub record BookEntries : Type 0 where
+  pub demand : ℕ
+  pub count : ℕ
+  pub bids : List BidEntries
+
+abbrev pub bidEntries : Bid → BidEntries
+bidEntries b = record { bidder = b .bidder; count = b .count; segments = take (b .count) (b .segments) }
+
+abbrev pub bookEntries : Book → BookEntries
+bookEntries b = record { demand = b .demand .0; count = b .count; bids = map bidEntries (take (b .count) (b .bids)) }
+
+-- Two records are the same book when they agree in demand, counts and every entry within the counts.
+abbrev pub SameBook : Book → Book → Type 0
+SameBook a b = bookEntries a ≡ bookEntries b

@@ -1,0 +1,24 @@
+// The bytes that the bids of an accepted book take at most.
+ghost use mathlib.Core.Path.{_≡_};
+ghost use Prim.Native.Nat.{_+_, _*_, _≤_};
+ghost use Rattle.book.specs.Entries.{bookEntries};
+ghost use Rattle.book.specs.Rules.{bookVerdict};
+ghost use Rattle.book.specs.Room.{roomOfBids};
+ghost use Rattle.refusal.specs.declared.Verdict.the-variants.{Accepted};
+use crate::Book;
+
+// 11 for each bid and 45 for each segment of an accepted book.
+pub fn room_of_bids(book: Book) -> u64
+    requires { ⌜ bookVerdict (bookEntries book) ≡ Accepted ⌝ }
+    ensures { λ r. ⌜ r ≡ roomOfBids (bookEntries book .bids) ⌝ }
+    ensures { λ r. ⌜ r ≤ 8 * (11 + 45 * 6) ⌝ }
+{
+    let mut room: u64 = 0;
+    let mut i: usize = 0;
+    while i < book.count {
+        let b = book.bids[i];
+        room += 11 + 45 * (b.count as u64);
+        i += 1;
+    }
+    room
+}

@@ -1,0 +1,36 @@
+-- The part of a list that a loop has still to go through, from an index to an end. Assumes nothing.
+use Prim.Native.Nat.{ℕ, _+_, _≤_, _<_, min}
+use native.Mathlib.Numerals.{add-one}
+use native.Mathlib.Omega.{arith}
+use mathlib.Core.Bool.{Bool, true, false}
+use mathlib.Core.List.{List, [], _∷_, map}
+use mathlib.Core.Path.{_≡_, refl, sym, _∙_}
+use borrow.Author.Tests.{leb-true, leb-false}
+use lib.Dec.{leb}
+use lib.ListN.{length, getD, take, length-map}
+use lib.Seq.{slice, slice-cons, slice-empty, take-all}
+
+module _ {A : Type 0} where
+  -- a turn takes the element at the index
+  pub slice-next : (xs : List A) (i n : ℕ) (d : A) → i < n → n ≤ length xs → slice i n xs ≡ getD xs i d ∷ slice (i + 1) n xs
+  slice-next xs i n d h k = rw add-one (slice-cons i n xs d h k)
+
+  -- after the last turn nothing is left
+  pub slice-done : (xs : List A) (i n : ℕ) → i ≤ n → n ≤ i → slice i n xs ≡ []
+  slice-done xs i n h k = let e : i ≡ n = omega arith in rw e (slice-empty n xs)
+
+-- the length of an array of structs, from what holding it tells
+pub length-held : (X Y : Type 0) (f : X → Y) (xs : List X) (n : ℕ) → length (map f xs) ≡ n → length xs ≡ n
+length-held X Y f xs n e = sym (length-map xs f) ∙ e
+
+-- a count beyond the length takes no more than the whole list
+pub take-held : {A : Type 0} (xs : List A) (n m : ℕ) → m ≡ min n (length xs) → take m xs ≡ take n xs
+take-held xs n m e = go (leb n (length xs)) refl
+  where
+    go : (t : Bool) → leb n (length xs) ≡ t → take m xs ≡ take n xs
+    go true p = let q : m ≡ n = omega (arith, leb-true n (length xs) p) in rw q
+    go false p =
+        let l = leb-false n (length xs) p in
+        let q : length xs ≤ m = omega arith in
+        let r : length xs ≤ n = omega arith in
+        take-all m xs q ∙ sym (take-all n xs r)
