@@ -35,10 +35,10 @@ fn start_priced(s: Segment) -> bool
     requires { ⌜ segmentInRange s ≡ true ⌝ }
     ensures { λ r. ⌜ r ≡ startPriced s ⌝ }
 {
-    let start = s.start;
     let unit = s.unit;
+    let start = s.start;
     let fixed = s.fixed;
-    money::at_most(Cents(0), money::price(start, unit, fixed))
+    money::at_most(Cents(0), money::price(unit, start, fixed))
 }
 
 // Rule 8, of a bid that keeps rule 5.

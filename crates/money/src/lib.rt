@@ -20,7 +20,7 @@ pub struct Cents(pub i64);
 // The price rule: unit price × quantity + fixed price. Nothing else in this repository multiplies
 // a price by a quantity. It is pub for the crates that check and clear a book, which know the
 // ranges and so that the price fits.
-pub fn price(quantity: Blanks, unit: CentsPerBlank, fixed: Cents) -> Cents
+pub fn price(unit: CentsPerBlank, quantity: Blanks, fixed: Cents) -> Cents
     requires { ⌜ unit .0 * quantity .0 < 2 ^ 63 ⌝ }
     requires { ⌜ SFits w64 (priceOf (unit .0) (quantity .0) (fixed .0)) ⌝ }
     ensures { λ r. ⌜ r .0 ≡ priceOf (unit .0) (quantity .0) (fixed .0) ⌝ }

@@ -1,0 +1,88 @@
+// The price of a proposed split: one quantity for each bid, in book order.
+ghost use mathlib.Core.Path.{_≡_};
+ghost use Prim.Native.Nat.{_+_, _≤_};
+ghost use lib.Dec.{eqb};
+ghost use Rattle.book.specs.Entries.{bookEntries};
+ghost use Rattle.book.specs.Rules.{bookVerdict};
+ghost use Rattle.refusal.specs.declared.Rule.the-variants.{OffCurve};
+ghost use Rattle.refusal.specs.declared.Verdict.the-variants.{Accepted, Refused};
+ghost use Rattle.supply.specs.Allocation.{total, costOf};
+ghost use Rattle.split.specs.Split.{refusedSplit, answer, splitVerdict, splitOf};
+use book::Book;
+use money::Blanks;
+use money::Cents;
+use refusal::Rule;
+use refusal::Verdict;
+use supply::Offer;
+
+// The price of a split, and whether its quantities add up to the demand; 0 and no beside a
+// refusal.
+pub struct SplitPrice {
+    pub verdict: Verdict,
+    pub price: Cents,
+    pub meets: bool,
+}
+
+// Prices a split of any book by any list of quantities. It is never refused for want of a
+// division: a split is priced whether or not the book can be covered.
+pub fn price_split(book: Book, quantities: &[u64]) -> SplitPrice
+    ensures { λ r. ⌜ r ≡ splitOf (bookEntries book) (now (quantities .entry)) ⌝ }
+{
+    let verdict = book::check(book);
+    if let Verdict::Refused(_, _) = verdict {
+        return refused(verdict);
+    }
+    price_accepted(book, quantities)
+}
+
+fn refused(verdict: Verdict) -> SplitPrice
+    ensures { λ r. ⌜ r ≡ refusedSplit verdict ⌝ }
+{
+    SplitPrice {
+        verdict,
+        price: Cents(0),
+        meets: false,
+    }
+}
+
+// Rule 11, at the line of the bid with this index.
+fn off_curve(i: usize) -> SplitPrice
+    requires { ⌜ i ≤ 8 ⌝ }
+    ensures { λ r. ⌜ r ≡ refusedSplit (Refused OffCurve (2 + i)) ⌝ }
+{
+    refused(Verdict::Refused(Rule::OffCurve, 2 + i as u64))
+}
+
+// The split of an accepted book.
+fn price_accepted(book: Book, quantities: &[u64]) -> SplitPrice
+    requires { ⌜ bookVerdict (bookEntries book) ≡ Accepted ⌝ }
+    ensures { λ r. ⌜ r ≡ answer (splitVerdict 2 (bookEntries book .bids) (now (quantities .entry))) (costOf (bookEntries book .bids) (now (quantities .entry))) (eqb (total (now (quantities .entry))) (book .demand .0)) ⌝ }
+{
+    let count = book.count;
+    let mut price = Cents(0);
+    let mut sum: u64 = 0;
+    let mut i: usize = 0;
+    while i < count {
+        if quantities.len() <= i {
+            return off_curve(i);
+        }
+        let quantity = quantities[i];
+        let bid = book.bids[i];
+        let offer = supply::price_at(bid, Blanks(quantity));
+        let Offer::Price(p) = offer else {
+            return off_curve(i);
+        };
+        price = money::plus(price, p);
+        sum += quantity;
+        i += 1;
+    }
+    if count < quantities.len() {
+        return off_curve(count);
+    }
+    let demand = book.demand.0;
+    SplitPrice {
+        verdict: Verdict::Accepted,
+        price,
+        meets: sum == demand,
+    }
+}

@@ -1,0 +1,123 @@
+-- A supply function segment by segment, and what an offer tells. Assumes nothing.
+use Prim.Native.Nat.{ℕ, _+_, _≤_, _<_}
+use native.Mathlib.Omega.{arith}
+use mathlib.Core.Bool.{Bool, true, false, cond, _||_, false≢true}
+use mathlib.Core.List.{List, [], _∷_}
+use mathlib.Core.Path.{_≡_, refl, sym, ap, _∙_}
+use borrow.Author.Tests.{lt-leb}
+use lib.Dec.{leb, leb·zero}
+use lib.IntN.{ℤ, natAbs}
+use lib.ListN.{length, getD}
+use lib.Seq.{slice}
+use Rattle.lists.specs.Every.{every}
+use Rattle.lists.proofs.Tests.{both-left, both-right}
+use Rattle.lists.proofs.Slices.{slice-next, slice-done}
+use Rattle.money.specs.declared.Cents.{Cents}
+use Rattle.money.specs.Price.{priceOf}
+use Rattle.book.specs.declared.Segment.{Segment}
+use Rattle.book.specs.Entries.{BidEntries}
+use Rattle.book.specs.Rules.{segmentInRange}
+use Rattle.book.proofs.Records.{noSegment}
+use Rattle.book.proofs.InRange.{InRange, in-range, within-high, price-small}
+use Rattle.supply.specs.declared.Offer.{Offer}
+use Rattle.supply.specs.declared.Offer.the-variants.{Price, Nothing}
+use Rattle.supply.specs.Supply.{segment0, curve, on, offers, priceAt, offerOf}
+
+-- the price on a segment, as an offer
+abbrev pub priced : Segment → ℕ → Offer
+priced s r = Price (record { 0 = priceOf (s .unit .0) r (s .fixed .0) })
+
+pub offer-here : (s : Segment) (ss : List Segment) (r : ℕ) → on s r ≡ true → offerOf (s ∷ ss) r ≡ priced s r
+unfolding offerOf offers priceAt
+offer-here s ss r e = rw e
+
+pub offer-past : (s : Segment) (ss : List Segment) (r : ℕ) → on s r ≡ false → offerOf (s ∷ ss) r ≡ offerOf ss r
+unfolding offerOf offers priceAt
+offer-past s ss r e = rw e
+
+-- quantity 0 is on segment 0, and no other is
+pub nothing-offered : (ss : List Segment) → offerOf (segment0 ∷ ss) 0 ≡ priced segment0 0
+unfolding on
+nothing-offered ss = offer-here segment0 ss 0 refl
+
+pub past-nothing : (ss : List Segment) (r : ℕ) → 0 < r → offerOf (segment0 ∷ ss) r ≡ offerOf ss r
+unfolding on
+past-nothing ss r h = offer-past segment0 ss r (rw (leb·zero, lt-leb r 0 h))
+
+-- along a loop
+module _ (r : ℕ) (ss : List Segment) (i n : ℕ) (more : i < n) (held : n ≤ length ss) where
+  abbrev here : Segment
+  here = getD ss i noSegment
+
+  unrolled : offerOf (slice i n ss) r ≡ offerOf (here ∷ slice (i + 1) n ss) r
+  unrolled = ap (λ (l : List Segment). offerOf l r) (slice-next ss i n noSegment more held)
+
+  pub offer-next : on here r ≡ false → offerOf (slice i n ss) r ≡ offerOf (slice (i + 1) n ss) r
+  offer-next e = unrolled ∙ offer-past here (slice (i + 1) n ss) r e
+
+  pub offer-stop : on here r ≡ true → offerOf (slice i n ss) r ≡ priced here r
+  offer-stop e = unrolled ∙ offer-here here (slice (i + 1) n ss) r e
+
+pub offer-done : (r : ℕ) (ss : List Segment) (i n : ℕ) → i ≤ n → n ≤ i → offerOf (slice i n ss) r ≡ Nothing
+unfolding offerOf offers
+offer-done r ss i n h k = ap (λ (l : List Segment). offerOf l r) (slice-done ss i n h k)
+
+-- what an offer tells
+offer-cases : (t : Bool) (price : Cents) (o : Offer) → cond t (Price price) Nothing ≡ o → ((p : Cents) → o ≡ Price p → (t ≡ true) × (price ≡ p)) × (o ≡ Nothing → t ≡ false)
+offer-cases true price o e = (λ p f. (refl, cc), λ f. let z : _≡_ {A = ℕ} 0 1 = cc in absurd (omega arith))
+offer-cases false price o e = (λ p f. let z : _≡_ {A = ℕ} 0 1 = cc in absurd (omega arith), λ f. refl)
+
+pub offered : (ss : List Segment) (r : ℕ) (p : Cents) → offerOf ss r ≡ Price p → (offers ss r ≡ true) × (priceAt ss r ≡ p .0)
+unfolding offerOf
+offered ss r p e =
+    let (t, f) = offer-cases (offers ss r) (record { 0 = priceAt ss r }) (offerOf ss r) refl .0 p e in
+    (t, ap (λ (c : Cents). c .0) f)
+
+pub not-offered : (ss : List Segment) (r : ℕ) → offerOf ss r ≡ Nothing → offers ss r ≡ false
+unfolding offerOf
+not-offered ss r e = offer-cases (offers ss r) (record { 0 = priceAt ss r }) (offerOf ss r) refl .1 e
+
+-- A quantity that is offered, and its price, are small where each segment is in range.
+
+pub on-small : (s : Segment) (r : ℕ) → on s r ≡ true → s .end .0 ≤ 1000000 → r ≤ 1000000
+unfolding on
+on-small s r e h = omega (arith, within-high (s .start .0) (s .end .0) r e)
+
+pub record Small (ss : List Segment) (r : ℕ) : Type 0 where
+  pub quantity : r ≤ 1000000
+  pub price : natAbs (priceAt ss r) ≤ 2000000000000
+
+small-here : (s : Segment) (ss : List Segment) (r : ℕ) → InRange s → on s r ≡ true → Small (s ∷ ss) r
+unfolding priceAt
+small-here s ss r range e =
+    let few = on-small s r e (range .end-high) in
+    record { quantity = few; price = rw e (price-small s r range few) }
+
+small-past : (s : Segment) (ss : List Segment) (r : ℕ) → on s r ≡ false → Small ss r → Small (s ∷ ss) r
+unfolding priceAt
+small-past s ss r e l = record { quantity = l .quantity; price = rw e (l .price) }
+
+pub offered-small : (ss : List Segment) (r : ℕ) → every segmentInRange ss ≡ true → offers ss r ≡ true → Small ss r
+unfolding every offers
+offered-small [] r ranges e = absurd (false≢true e)
+offered-small (s ∷ ss) r ranges e =
+    go (on s r) refl (λ f. offered-small ss r (both-right (segmentInRange s) (every segmentInRange ss) ranges) (rw f at e))
+  where
+    go : (t : Bool) → on s r ≡ t → (on s r ≡ false → Small ss r) → Small (s ∷ ss) r
+    go true f later = small-here s ss r (in-range s (both-left (segmentInRange s) (every segmentInRange ss) ranges)) f
+    go false f later = small-past s ss r f (later f)
+
+-- of a bid's supply function, segment 0 with it
+nothing-small : (ss : List Segment) (r : ℕ) → on segment0 r ≡ true → Small (segment0 ∷ ss) r
+unfolding priceAt on priceOf
+nothing-small ss r e =
+    let none : r ≡ 0 = omega (arith, within-high 0 0 r e) in
+    rw none (record { quantity = omega arith; price = omega arith })
+
+pub curve-small : (b : BidEntries) (r : ℕ) → every segmentInRange (b .segments) ≡ true → offers (curve b) r ≡ true → Small (curve b) r
+unfolding offers
+curve-small b r ranges e = go (on segment0 r) refl (λ f. offered-small (b .segments) r ranges (rw f at e))
+  where
+    go : (t : Bool) → on segment0 r ≡ t → (on segment0 r ≡ false → Small (b .segments) r) → Small (curve b) r
+    go true f later = nothing-small (b .segments) r f
+    go false f later = small-past segment0 (b .segments) r f (later f)

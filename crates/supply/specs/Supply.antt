@@ -1,0 +1,37 @@
+-- A bid's supply function: document 000, section 3, and document 01, section "Price and allocation".
+use Prim.Native.Nat.{ℕ}
+use mathlib.Core.Bool.{Bool, false, cond, _||_}
+use mathlib.Core.List.{List, [], _∷_}
+use lib.IntN.{ℤ, pos}
+use Rattle.money.specs.Price.{priceOf}
+use Rattle.book.specs.declared.Segment.{Segment}
+use Rattle.book.specs.Entries.{BidEntries}
+use Rattle.book.specs.Rules.{within}
+use Rattle.supply.specs.declared.Offer.{Offer}
+use Rattle.supply.specs.declared.Offer.the-variants.{Price, Nothing}
+
+-- segment 0 of every bidder is quantity 0 at price 0
+abbrev pub segment0 : Segment
+segment0 = record { start = record { 0 = 0 }; end = record { 0 = 0 }; unit = record { 0 = 0 }; fixed = record { 0 = pos 0 } }
+
+-- a bid's supply function, by its segments
+abbrev pub curve : BidEntries → List Segment
+curve b = segment0 ∷ b .segments
+
+-- a quantity is on a segment from its start to its end, both counted
+unfoldable pub on : Segment → ℕ → Bool
+on s r = within (s .start .0) (s .end .0) r
+
+-- a bidder offers the quantities that are on one of its segments
+unfoldable pub offers : List Segment → ℕ → Bool
+offers [] r = false
+offers (s ∷ ss) r = on s r || offers ss r
+
+-- r blanks cost what they cost on the segment that r is on
+unfoldable pub priceAt : List Segment → ℕ → ℤ
+priceAt [] r = pos 0
+priceAt (s ∷ ss) r = cond (on s r) (priceOf (s .unit .0) r (s .fixed .0)) (priceAt ss r)
+
+-- the price where the quantity is offered
+unfoldable pub offerOf : List Segment → ℕ → Offer
+offerOf ss r = cond (offers ss r) (Price (record { 0 = priceAt ss r })) Nothing

@@ -1,0 +1,51 @@
+// A bid's supply function: which quantities it offers, and at what price.
+ghost use mathlib.Core.Path.{_≡_};
+ghost use mathlib.Core.Bool.{true};
+ghost use Prim.Native.Nat.{_≤_};
+ghost use Rattle.lists.specs.Every.{every};
+ghost use Rattle.book.specs.Entries.{bidEntries};
+ghost use Rattle.book.specs.Rules.{segmentInRange};
+ghost use Rattle.supply.specs.Supply.{on, curve, offerOf};
+use book::Bid;
+use book::Segment;
+use money::Blanks;
+use money::Cents;
+
+// What a bid says to a quantity: its price, or that it is not on offer.
+pub enum Offer {
+    Price(Cents),
+    Nothing,
+}
+
+// From the start to the end, both counted.
+fn on_segment(s: Segment, quantity: Blanks) -> bool
+    ensures { λ r. ⌜ r ≡ on s (quantity .0) ⌝ }
+{
+    if quantity.0 < s.start.0 {
+        return false;
+    }
+    quantity.0 <= s.end.0
+}
+
+// The price of a quantity by the bid of an accepted book. It is pub for the crates that price
+// splits of such a book; in it each segment is in range, so that every price fits.
+pub fn price_at(bid: Bid, quantity: Blanks) -> Offer
+    requires { ⌜ bid .count ≤ 6 ⌝ }
+    requires { ⌜ every segmentInRange (bidEntries bid .segments) ≡ true ⌝ }
+    ensures { λ r. ⌜ r ≡ offerOf (curve (bidEntries bid)) (quantity .0) ⌝ }
+{
+    if quantity.0 == 0 {
+        return Offer::Price(Cents(0));
+    }
+    let mut i: usize = 0;
+    while i < bid.count {
+        let s = bid.segments[i];
+        if on_segment(s, quantity) {
+            let unit = s.unit;
+            let fixed = s.fixed;
+            return Offer::Price(money::price(unit, quantity, fixed));
+        }
+        i += 1;
+    }
+    Offer::Nothing
+}
