@@ -12,7 +12,7 @@ use mir.Syntax.{w64}
 use mir.Val.{SFits}
 use Rattle.lists.proofs.Tests.{both-left, both-right}
 use Rattle.money.specs.Price.{priceOf}
-use Rattle.money.proofs.Size.{price-size, small-fits, between-size}
+use Rattle.money.proofs.Bounds.{price-size, small-fits, between-size}
 use Rattle.book.specs.declared.Segment.{Segment}
 use Rattle.book.specs.Rules.{within, segmentInRange}
 

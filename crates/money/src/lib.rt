@@ -2,7 +2,7 @@
 // Fixed prices may be negative, so prices are signed; what is meant is stated over ℤ.
 ghost use mathlib.Core.Path.{_≡_};
 ghost use Prim.Native.Nat.{_*_, _^_, _<_};
-ghost use lib.IntN.{_+ℤ_};
+ghost use lib.IntN.{natAbs, _+ℤ_};
 ghost use lib.Signed.{leZ};
 ghost use mir.Syntax.{w64};
 ghost use mir.Val.{SFits};
@@ -42,4 +42,16 @@ pub fn at_most(a: Cents, b: Cents) -> bool
     ensures { λ r. ⌜ r ≡ leZ (a .0) (b .0) ⌝ }
 {
     a.0 <= b.0
+}
+
+// A price without its sign, as it is written after a `-`.
+pub fn size(c: Cents) -> u64
+    ensures { λ r. ⌜ r ≡ natAbs (c .0) ⌝ }
+{
+    let z = c.0;
+    if z < 0 {
+        let short = -(z + 1);
+        return short as u64 + 1;
+    }
+    z as u64
 }

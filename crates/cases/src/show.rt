@@ -1,0 +1,72 @@
+// What a case gave, as a line of standard output.
+use book::RoomFigure;
+use money::Cents;
+use refusal::Verdict;
+use split::SplitPrice;
+
+pub fn text(t: &[u8]) {
+    io::write_all(1, t);
+}
+
+pub fn number(n: u64) {
+    io::print_decimal(1, n);
+}
+
+fn cents(c: Cents) {
+    if !money::at_most(Cents(0), c) {
+        text(b"-");
+    }
+    number(money::size(c));
+}
+
+fn refusal(verdict: Verdict) {
+    text(b"(refused ");
+    number(refusal::number(verdict));
+    text(b" ");
+    number(refusal::place(verdict));
+    text(b")");
+}
+
+pub fn verdict(name: &[u8], verdict: Verdict) {
+    text(name);
+    text(b": ");
+    if let Verdict::Accepted = verdict {
+        text(b"accepted");
+    } else {
+        refusal(verdict);
+    }
+    text(b"\n");
+}
+
+pub fn split(name: &[u8], r: SplitPrice) {
+    text(name);
+    text(b": ");
+    let verdict = r.verdict;
+    if let Verdict::Accepted = verdict {
+        text(b"accepted");
+    } else {
+        refusal(verdict);
+    }
+    text(b", ");
+    let price = r.price;
+    cents(price);
+    if r.meets {
+        text(b", yes\n");
+    } else {
+        text(b", no\n");
+    }
+}
+
+pub fn room(name: &[u8], r: RoomFigure) {
+    text(name);
+    text(b": ");
+    let verdict = r.verdict;
+    if let Verdict::Accepted = verdict {
+        text(b"accepted");
+    } else {
+        refusal(verdict);
+    }
+    text(b", ");
+    number(r.bytes);
+    text(b"\n");
+}

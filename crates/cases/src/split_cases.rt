@@ -1,0 +1,73 @@
+// Proposed splits.
+use crate::books;
+use crate::show;
+use book::Book;
+use money::Blanks;
+
+fn three(name: &[u8], book: Book, a: u64, b: u64, c: u64) {
+    let quantities = [a, b, c];
+    show::split(name, split::price_split(book, &quantities));
+}
+
+pub fn run() {
+    let book = books::blanks(120);
+    three(b"split 60 60 0", book, 60, 60, 0);
+    three(b"split 60 10 0", book, 60, 10, 0);
+    three(b"split 100 20 0", book, 100, 20, 0);
+    three(b"split 0 0 0", book, 0, 0, 0);
+    three(b"split 61 0 120", book, 61, 0, 120);
+    three(b"split 101 0 0", book, 101, 0, 0);
+    three(b"split 0 0 119", book, 0, 0, 119);
+    three(b"split 60 60 0 with demand 0", books::blanks(0), 60, 60, 0);
+    three(
+        b"split 60 60 0 with demand 301",
+        books::blanks(301),
+        60,
+        60,
+        0,
+    );
+    lengths();
+    gap();
+    wide();
+}
+
+fn lengths() {
+    let book = books::blanks(120);
+    let none: [u64; 0] = [];
+    show::split(b"split of no quantity", split::price_split(book, &none));
+    let two = [60, 60];
+    show::split(b"split 60 60", split::price_split(book, &two));
+    let four = [60, 60, 0, 0];
+    show::split(b"split 60 60 0 0", split::price_split(book, &four));
+    let early = [60, 10, 0, 0];
+    show::split(b"split 60 10 0 0", split::price_split(book, &early));
+}
+
+// A quantity between two segments is on none.
+fn gap() {
+    let gapped = books::two(
+        3,
+        books::segment(1, 50, 400, 0),
+        books::segment(61, 100, 350, -500),
+    );
+    let book = books::three(120, gapped, books::bid8(), books::bid12());
+    three(b"split 55 60 0 with a gap from 51 to 60", book, 55, 60, 0);
+}
+
+// A price beyond 32 bits.
+fn wide() {
+    let dear = books::one(3, books::segment(1, 12_000, 400_000, 0));
+    let mut book = books::three(12_000, dear, books::bid8(), books::bid12());
+    book.count = 1;
+    let quantities = [12_000];
+    show::split(
+        b"split 12000 at 400000",
+        split::price_split(book, &quantities),
+    );
+    let demand = Blanks(1);
+    book.demand = demand;
+    show::split(
+        b"the same with demand 1",
+        split::price_split(book, &quantities),
+    );
+}
