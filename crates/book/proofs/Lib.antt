@@ -3,3 +3,4 @@ pub mod InRange
 pub mod Rising
 pub mod Bids
 pub mod Accepted
+pub mod Same

@@ -1,0 +1,83 @@
+-- In an accepted book a quantity is on at most one segment of a bid, and its price is the one there. Assumes nothing.
+use Prim.Native.Nat.{ℕ, zero, suc, _≤_, _<_}
+use native.Mathlib.Nat.{le-of-suc-le-suc, not-suc-le-zero}
+use native.Mathlib.Omega.{arith}
+use mathlib.Core.Bool.{Bool, true, false, _&&_, and-false}
+use mathlib.Core.List.{List, [], _∷_}
+use mathlib.Core.Path.{_≡_, refl, ap}
+use borrow.Author.Tests.{ltb-true, leb-true, lt-leb}
+use lib.Dec.{leb, ltb}
+use lib.IntN.{ℤ}
+use lib.ListN.{length, getD}
+use Rattle.lists.proofs.Tests.{both-left, both-right}
+use Rattle.money.specs.Price.{priceOf}
+use Rattle.book.specs.declared.Segment.{Segment}
+use Rattle.book.specs.Entries.{BidEntries}
+use Rattle.book.specs.Rules.{segmentsRise}
+use Rattle.book.proofs.Accepted.{KeptBid}
+use Rattle.book.proofs.InRange.{within-low, within-high}
+use Rattle.supply.specs.Supply.{segment0, curve, on, priceAt}
+
+-- segment j of a supply function, from 0 on
+abbrev pub segmentAt : List Segment → ℕ → Segment
+segmentAt ss j = getD ss j segment0
+
+on-low : (s : Segment) (r : ℕ) → on s r ≡ true → s .start .0 ≤ r
+unfolding on
+on-low s r e = within-low (s .start .0) (s .end .0) r e
+
+on-high : (s : Segment) (r : ℕ) → on s r ≡ true → r ≤ s .end .0
+unfolding on
+on-high s r e = within-high (s .start .0) (s .end .0) r e
+
+off-above : (s : Segment) (r : ℕ) → s .end .0 < r → on s r ≡ false
+unfolding on
+off-above s r h = rw (lt-leb r (s .end .0) h, and-false)
+
+record Step (before : ℕ) (s : Segment) (ss : List Segment) : Type 0 where
+  above : before < s .start .0
+  order : s .start .0 ≤ s .end .0
+  rest : segmentsRise (s .end .0) ss ≡ true
+
+step : (before : ℕ) (s : Segment) (ss : List Segment) → segmentsRise before (s ∷ ss) ≡ true → Step before s ss
+unfolding segmentsRise
+step before s ss e =
+    let a = ltb before (s .start .0) in
+    let o = leb (s .start .0) (s .end .0) in
+    let r = segmentsRise (s .end .0) ss in
+    let front = both-left (a && o) r e in
+    record { above = ltb-true before (s .start .0) (both-left a o front); order = leb-true (s .start .0) (s .end .0) (both-right a o front); rest = both-right (a && o) r e }
+
+-- a quantity on a later segment is above what stands before
+beyond : (before : ℕ) (ss : List Segment) (j r : ℕ) → segmentsRise before ss ≡ true → j < length ss → on (segmentAt ss j) r ≡ true → before < r
+beyond before [] j r e h o = absurd (not-suc-le-zero h)
+beyond before (s ∷ ss) zero r e h o = let t = step before s ss e in omega (arith, t .above, on-low s r o)
+beyond before (s ∷ ss) (suc j) r e h o =
+    let t = step before s ss e in
+    omega (arith, t .above, t .order, beyond (s .end .0) ss j r (t .rest) (le-of-suc-le-suc h) o)
+
+-- Of a segment and those that rise above its end: a quantity on one of them is on no other, and has the price there.
+
+price-there : (s : Segment) (ss : List Segment) (j r : ℕ) → segmentsRise (s .end .0) ss ≡ true → j < length (s ∷ ss) → on (segmentAt (s ∷ ss) j) r ≡ true → priceAt (s ∷ ss) r ≡ priceOf (segmentAt (s ∷ ss) j .unit .0) r (segmentAt (s ∷ ss) j .fixed .0)
+unfolding priceAt
+price-there s ss zero r e h o = rw o
+price-there s [] (suc j) r e h o = absurd (omega arith)
+price-there s (t ∷ ts) (suc j) r e h o =
+    let l = le-of-suc-le-suc h in
+    rw (off-above s r (beyond (s .end .0) (t ∷ ts) j r e l o)) (price-there t ts j r (step (s .end .0) t ts e .rest) l o)
+
+one-there : (s : Segment) (ss : List Segment) (j k r : ℕ) → segmentsRise (s .end .0) ss ≡ true → j < length (s ∷ ss) → k < length (s ∷ ss) → on (segmentAt (s ∷ ss) j) r ≡ true → on (segmentAt (s ∷ ss) k) r ≡ true → j ≡ k
+one-there s ss zero zero r e hj hk oj ok = refl
+one-there s ss zero (suc k) r e hj hk oj ok = absurd (omega (arith, on-high s r oj, beyond (s .end .0) ss k r e (le-of-suc-le-suc hk) ok))
+one-there s ss (suc j) zero r e hj hk oj ok = absurd (omega (arith, on-high s r ok, beyond (s .end .0) ss j r e (le-of-suc-le-suc hj) oj))
+one-there s [] (suc j) (suc k) r e hj hk oj ok = absurd (omega arith)
+one-there s (t ∷ ts) (suc j) (suc k) r e hj hk oj ok =
+    ap suc (one-there t ts j k r (step (s .end .0) t ts e .rest) (le-of-suc-le-suc hj) (le-of-suc-le-suc hk) oj ok)
+
+-- A bid of an accepted book: segment 0 ends at 0, and the others rise above it.
+module _ (b : BidEntries) (kept : KeptBid b) (r : ℕ) where
+  pub the-price : (j : ℕ) → j < length (curve b) → on (segmentAt (curve b) j) r ≡ true → priceAt (curve b) r ≡ priceOf (segmentAt (curve b) j .unit .0) r (segmentAt (curve b) j .fixed .0)
+  the-price j h o = price-there segment0 (b .segments) j r (kept .rises) h o
+
+  pub one-segment : (j k : ℕ) → j < length (curve b) → k < length (curve b) → on (segmentAt (curve b) j) r ≡ true → on (segmentAt (curve b) k) r ≡ true → j ≡ k
+  one-segment j k hj hk oj ok = one-there segment0 (b .segments) j k r (kept .rises) hj hk oj ok
