@@ -1,7 +1,7 @@
 -- The bids of a book along a loop. Assumes nothing.
 use Prim.Native.Nat.{ℕ, _+_, _≤_, _<_}
 use mathlib.Core.List.{List, [], _∷_, map}
-use mathlib.Core.Path.{_≡_, refl, ap, _∙_}
+use mathlib.Core.Path.{_≡_, ap, _∙_}
 use lib.ListN.{length, getD}
 use lib.Seq.{slice}
 use Rattle.lists.proofs.Slices.{slice-next, slice-done}

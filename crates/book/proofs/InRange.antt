@@ -1,5 +1,5 @@
 -- What rule 5 tells of a segment, and that its prices then fit. Assumes nothing.
-use Prim.Native.Nat.{ℕ, _+_, _*_, _^_, _≤_, _<_}
+use Prim.Native.Nat.{ℕ, _*_, _^_, _≤_, _<_}
 use native.Mathlib.Nat.{mul-le-mul}
 use native.Mathlib.Omega.{arith}
 use mathlib.Core.Bool.{true, _&&_}
@@ -52,11 +52,18 @@ in-range s e =
       fixed-size = between-size 1000000000000 (s .fixed .0) (both-left above below z) (both-right above below z);
     }
 
-module _ (s : Segment) (r : ℕ) (range : InRange s) (few : r ≤ 1000000) where
+-- the most that a bid can sell, and a bound of its price
+abbrev pub mostBlanks : ℕ
+mostBlanks = 1000000
+
+abbrev pub mostCents : ℕ
+mostCents = 2000000000000
+
+module _ (s : Segment) (r : ℕ) (range : InRange s) (few : r ≤ mostBlanks) where
   product-small : s .unit .0 * r ≤ 1000000000000
   product-small = mul-le-mul (range .unit-high) few
 
-  pub price-small : natAbs (priceOf (s .unit .0) r (s .fixed .0)) ≤ 2000000000000
+  pub price-small : natAbs (priceOf (s .unit .0) r (s .fixed .0)) ≤ mostCents
   price-small = omega (arith, price-size (s .unit .0) r (s .fixed .0), product-small, range .fixed-size)
 
   -- what the price rule asks

@@ -1,8 +1,8 @@
 -- Rule 7 along a loop. Assumes nothing.
 use Prim.Native.Nat.{ℕ, _+_, _≤_, _<_}
-use mathlib.Core.Bool.{Bool, true, false, _&&_, and-false}
-use mathlib.Core.List.{List, []}
-use mathlib.Core.Path.{_≡_, refl, ap, _∙_}
+use mathlib.Core.Bool.{true, false, _&&_, and-false}
+use mathlib.Core.List.{List}
+use mathlib.Core.Path.{_≡_, ap, _∙_}
 use lib.Dec.{leb, ltb}
 use lib.ListN.{length, getD}
 use lib.Seq.{slice}
@@ -22,11 +22,11 @@ module _ (before : ℕ) (ss : List Segment) (i n : ℕ) (more : i < n) (held : n
   pub rises-next : ltb before (here .start .0) ≡ true → leb (here .start .0) (here .end .0) ≡ true → segmentsRise before (slice i n ss) ≡ segmentsRise (here .end .0) (slice (i + 1) n ss)
   rises-next p q = unrolled ∙ rw (p, q)
 
-  pub falls-back : ltb before (here .start .0) ≡ false → segmentsRise before (slice i n ss) ≡ false
-  falls-back p = unrolled ∙ rw p
+  pub start-not-above : ltb before (here .start .0) ≡ false → segmentsRise before (slice i n ss) ≡ false
+  start-not-above p = unrolled ∙ rw p
 
-  pub turned : leb (here .start .0) (here .end .0) ≡ false → segmentsRise before (slice i n ss) ≡ false
-  turned q = unrolled ∙ rw (q, and-false)
+  pub start-above-end : leb (here .start .0) (here .end .0) ≡ false → segmentsRise before (slice i n ss) ≡ false
+  start-above-end q = unrolled ∙ rw (q, and-false)
 
 pub rises-done : (before : ℕ) (ss : List Segment) (i n : ℕ) → i ≤ n → n ≤ i → segmentsRise before (slice i n ss) ≡ true
 unfolding segmentsRise

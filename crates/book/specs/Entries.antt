@@ -25,6 +25,6 @@ bidEntries b = record { bidder = b .bidder; count = b .count; segments = take (b
 abbrev pub bookEntries : Book → BookEntries
 bookEntries b = record { demand = b .demand .0; count = b .count; bids = map bidEntries (take (b .count) (b .bids)) }
 
--- Two records are the same book when they agree in demand, counts and every entry within the counts.
+-- Document 01's "same book": two records agree in demand, counts and every entry within the counts.
 abbrev pub SameBook : Book → Book → Type 0
 SameBook a b = bookEntries a ≡ bookEntries b

@@ -1,4 +1,4 @@
--- Rules 3 to 8 of document 01, section "What is turned down": the first fault of a book, its rule and its line.
+-- Rules 3 to 8 of document 01, section "What is start-above-end down": the first fault of a book, its rule and its line.
 -- Lines are taken from the first, and in a line the rules by their numbers. The demand is line 1, the first bid line 2.
 use Prim.Native.Nat.{ℕ, _+_}
 use mathlib.Core.Bool.{Bool, true, _&&_}
@@ -8,7 +8,7 @@ use lib.IntN.{ℤ, pos, negℤ}
 use lib.Signed.{leZ}
 use Rattle.lists.specs.Every.{every}
 use Rattle.money.specs.Price.{priceOf}
-use Rattle.refusal.specs.Checks.{keeps, firstOf}
+use Rattle.refusal.specs.Checks.{unless, firstOf}
 use Rattle.refusal.specs.declared.Rule.the-variants.{BidCount, SegmentCount, Range, BidderOrder, SegmentOrder, NegativePrice}
 use Rattle.refusal.specs.declared.Verdict.{Verdict}
 use Rattle.refusal.specs.declared.Verdict.the-variants.{Accepted}
@@ -30,24 +30,28 @@ segmentInRange s =
     && within 0 1000000 (s .unit .0)
     && withinZ (negℤ (pos 1000000000000)) (pos 1000000000000) (s .fixed .0)
 
+-- rule 5, of a bid
+unfoldable pub bidInRange : BidEntries → Bool
+bidInRange b = within 1 9999 (b .bidder) && every segmentInRange (b .segments)
+
 -- rule 7: each start is at most its end, and above the end before it; before the first segment stands 0
 unfoldable pub segmentsRise : ℕ → List Segment → Bool
 segmentsRise before [] = true
 segmentsRise before (s ∷ ss) = ltb before (s .start .0) && leb (s .start .0) (s .end .0) && segmentsRise (s .end .0) ss
 
 -- rule 8: the price at a segment's start is not negative
-unfoldable pub startPriced : Segment → Bool
-startPriced s = leZ (pos 0) (priceOf (s .unit .0) (s .start .0) (s .fixed .0))
+unfoldable pub startNotNegative : Segment → Bool
+startNotNegative s = leZ (pos 0) (priceOf (s .unit .0) (s .start .0) (s .fixed .0))
 
 -- a bid on its line, after a bid of the bidder `before` (0 where it is the first)
 unfoldable pub bidVerdict : ℕ → ℕ → BidEntries → Verdict
 bidVerdict line before b =
     firstOf
-    (keeps (within 1 6 (b .count)) SegmentCount line
-    ∷ keeps (within 1 9999 (b .bidder) && every segmentInRange (b .segments)) Range line
-    ∷ keeps (ltb before (b .bidder)) BidderOrder line
-    ∷ keeps (segmentsRise 0 (b .segments)) SegmentOrder line
-    ∷ keeps (every startPriced (b .segments)) NegativePrice line
+    (unless (within 1 6 (b .count)) SegmentCount line
+    ∷ unless (bidInRange b) Range line
+    ∷ unless (ltb before (b .bidder)) BidderOrder line
+    ∷ unless (segmentsRise 0 (b .segments)) SegmentOrder line
+    ∷ unless (every startNotNegative (b .segments)) NegativePrice line
     ∷ [])
 
 -- the bids from a line on
@@ -59,8 +63,8 @@ bidsVerdict line before (b ∷ bs) = firstOf (bidVerdict line before b ∷ bidsV
 unfoldable pub bookVerdict : BookEntries → Verdict
 bookVerdict b =
     firstOf
-    (keeps (within 1 1000000 (b .demand)) Range 1
-    ∷ keeps (ltb 0 (b .count)) BidCount 2
+    (unless (within 1 1000000 (b .demand)) Range 1
+    ∷ unless (ltb 0 (b .count)) BidCount 2
     ∷ bidsVerdict 2 0 (b .bids)
-    ∷ keeps (leb (b .count) 8) BidCount 10
+    ∷ unless (leb (b .count) 8) BidCount 10
     ∷ [])

@@ -4,9 +4,10 @@ ghost use Rattle.book.specs.Entries.{bookEntries};
 ghost use Rattle.book.specs.Rules.{bookVerdict};
 ghost use Rattle.book.specs.Room.{roomOf};
 
-mod bytes;
-mod curve;
+mod figure;
 mod lines;
+mod order;
+mod prices;
 mod ranges;
 
 use money::Blanks;
@@ -73,6 +74,6 @@ pub fn room(book: Book) -> RoomFigure
     if let Verdict::Refused(_, _) = verdict {
         return RoomFigure { verdict, bytes: 0 };
     }
-    let bytes = 17 + bytes::room_of_bids(book);
+    let bytes = 17 + figure::room_of_bids(book);
     RoomFigure { verdict, bytes }
 }

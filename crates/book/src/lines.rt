@@ -1,38 +1,42 @@
 // The lines of the bids: rules 4 to 8, line by line.
 ghost use mathlib.Core.Path.{_≡_};
-ghost use Prim.Native.Nat.{_≤_, min};
+ghost use Prim.Native.Nat.{min};
 ghost use Rattle.book.specs.Entries.{bidEntries, bookEntries};
 ghost use Rattle.book.specs.Rules.{bidVerdict, bidsVerdict};
 use crate::Bid;
 use crate::Book;
-use crate::curve;
+use crate::order;
+use crate::prices;
 use crate::ranges;
 use refusal::Rule;
 use refusal::Verdict;
 
-// Rules 4 to 8, in their order; `before` is the bidder of the bid before, or 0.
+// `before` is the bidder of the bid before, or 0 for the first.
 fn check_bid(bid: Bid, line: u64, before: u64) -> Verdict
     ensures { λ r. ⌜ r ≡ bidVerdict line before (bidEntries bid) ⌝ }
 {
     if !ranges::within(1, 6, bid.count as u64) {
         return Verdict::Refused(Rule::SegmentCount, line);
     }
-    if !ranges::bid_in_range(bid) {
+    if !ranges::within(1, 9_999, bid.bidder) {
+        return Verdict::Refused(Rule::Range, line);
+    }
+    if !ranges::segments_in_range(bid) {
         return Verdict::Refused(Rule::Range, line);
     }
     if bid.bidder <= before {
         return Verdict::Refused(Rule::BidderOrder, line);
     }
-    if !curve::segments_rise(bid) {
+    if !order::segments_rise(bid) {
         return Verdict::Refused(Rule::SegmentOrder, line);
     }
-    if !curve::starts_priced(bid) {
+    if !prices::starts_not_negative(bid) {
         return Verdict::Refused(Rule::NegativePrice, line);
     }
     Verdict::Accepted
 }
 
-// How many bids the record holds.
+// How many of the counted bids are in the record, which has room for eight.
 fn held(count: usize) -> usize
     ensures { λ r. ⌜ r ≡ min count 8 ⌝ }
 {

@@ -1,9 +1,8 @@
 // Rule 5: every number is in its range.
 ghost use mathlib.Core.Path.{_≡_};
 ghost use Prim.Native.Nat.{_≤_};
-ghost use lib.ListN.{take};
 ghost use Rattle.lists.specs.Every.{every};
-ghost use mathlib.Core.Bool.{_&&_};
+ghost use Rattle.book.specs.Entries.{bidEntries};
 ghost use Rattle.book.specs.Rules.{within, segmentInRange};
 use crate::Bid;
 use crate::Segment;
@@ -38,9 +37,10 @@ fn segment_in_range(s: Segment) -> bool
     money::at_most(fixed, Cents(1_000_000_000_000))
 }
 
-fn segments_in_range(bid: Bid) -> bool
+// Of a bid that keeps rule 4, so that the record holds each segment that it counts.
+pub fn segments_in_range(bid: Bid) -> bool
     requires { ⌜ bid .count ≤ 6 ⌝ }
-    ensures { λ r. ⌜ r ≡ every segmentInRange (take (bid .count) (bid .segments)) ⌝ }
+    ensures { λ r. ⌜ r ≡ every segmentInRange (bidEntries bid .segments) ⌝ }
 {
     let mut i: usize = 0;
     while i < bid.count {
@@ -51,15 +51,4 @@ fn segments_in_range(bid: Bid) -> bool
         i += 1;
     }
     true
-}
-
-// A bid that keeps rule 4.
-pub fn bid_in_range(bid: Bid) -> bool
-    requires { ⌜ bid .count ≤ 6 ⌝ }
-    ensures { λ r. ⌜ r ≡ (within 1 9999 (bid .bidder) && every segmentInRange (take (bid .count) (bid .segments))) ⌝ }
-{
-    if !within(1, 9_999, bid.bidder) {
-        return false;
-    }
-    segments_in_range(bid)
 }

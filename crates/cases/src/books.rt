@@ -15,6 +15,16 @@ pub fn segment(start: u64, end: u64, unit: u64, fixed: i64) -> Segment {
     }
 }
 
+// A bid with no segment.
+fn empty() -> Bid {
+    let none = segment(0, 0, 0, 0);
+    Bid {
+        bidder: 0,
+        count: 0,
+        segments: [none, none, none, none, none, none],
+    }
+}
+
 // A bid of one segment.
 pub fn one(bidder: u64, s: Segment) -> Bid {
     let none = segment(0, 0, 0, 0);
@@ -37,7 +47,7 @@ pub fn two(bidder: u64, s: Segment, t: Segment) -> Bid {
 
 // A book of three bids.
 pub fn three(demand: u64, a: Bid, b: Bid, c: Bid) -> Book {
-    let none = one(0, segment(0, 0, 0, 0));
+    let none = empty();
     Book {
         demand: Blanks(demand),
         count: 3,

@@ -70,7 +70,10 @@ fn counts() {
     book.count = 0;
     show::verdict(b"no bids", book::check(book));
     book.count = 18_446_744_073_709_551_615;
-    show::verdict(b"many bids, the fourth empty", book::check(book));
+    show::verdict(
+        b"a count of 2^64 - 1, the fourth bid empty",
+        book::check(book),
+    );
     let mut bid = books::bid3();
     bid.count = 0;
     show::verdict(b"no segments", book::check(first(bid)));

@@ -2,7 +2,7 @@
 use crate::show;
 use money::Blanks;
 
-fn one(quantity: u64) {
+fn sample_of(quantity: u64) {
     show::text(b"sample of ");
     show::number(quantity);
     show::text(b": ");
@@ -11,17 +11,17 @@ fn one(quantity: u64) {
 }
 
 pub fn run() {
-    one(0);
-    one(1);
-    one(2);
-    one(8);
-    one(9);
-    one(20);
-    one(100);
-    one(3_200);
-    one(3_201);
-    one(500_000);
-    one(500_001);
-    one(1_000_000);
-    one(1_000_001);
+    sample_of(0);
+    sample_of(1);
+    sample_of(2);
+    sample_of(8);
+    sample_of(9);
+    sample_of(20);
+    sample_of(100);
+    sample_of(3_200);
+    sample_of(3_201);
+    sample_of(500_000);
+    sample_of(500_001);
+    sample_of(1_000_000);
+    sample_of(1_000_001);
 }

@@ -16,10 +16,14 @@ fn cents(c: Cents) {
     if !money::at_most(Cents(0), c) {
         text(b"-");
     }
-    number(money::size(c));
+    number(money::magnitude(c));
 }
 
-fn refusal(verdict: Verdict) {
+fn outcome(verdict: Verdict) {
+    if let Verdict::Accepted = verdict {
+        text(b"accepted");
+        return;
+    }
     text(b"(refused ");
     number(refusal::number(verdict));
     text(b" ");
@@ -30,11 +34,7 @@ fn refusal(verdict: Verdict) {
 pub fn verdict(name: &[u8], verdict: Verdict) {
     text(name);
     text(b": ");
-    if let Verdict::Accepted = verdict {
-        text(b"accepted");
-    } else {
-        refusal(verdict);
-    }
+    outcome(verdict);
     text(b"\n");
 }
 
@@ -42,11 +42,7 @@ pub fn split(name: &[u8], r: SplitPrice) {
     text(name);
     text(b": ");
     let verdict = r.verdict;
-    if let Verdict::Accepted = verdict {
-        text(b"accepted");
-    } else {
-        refusal(verdict);
-    }
+    outcome(verdict);
     text(b", ");
     let price = r.price;
     cents(price);
@@ -61,11 +57,7 @@ pub fn room(name: &[u8], r: RoomFigure) {
     text(name);
     text(b": ");
     let verdict = r.verdict;
-    if let Verdict::Accepted = verdict {
-        text(b"accepted");
-    } else {
-        refusal(verdict);
-    }
+    outcome(verdict);
     text(b", ");
     number(r.bytes);
     text(b"\n");

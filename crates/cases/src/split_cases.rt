@@ -4,22 +4,22 @@ use crate::show;
 use book::Book;
 use money::Blanks;
 
-fn three(name: &[u8], book: Book, a: u64, b: u64, c: u64) {
+fn of_three(name: &[u8], book: Book, a: u64, b: u64, c: u64) {
     let quantities = [a, b, c];
     show::split(name, split::price_split(book, &quantities));
 }
 
 pub fn run() {
     let book = books::blanks(120);
-    three(b"split 60 60 0", book, 60, 60, 0);
-    three(b"split 60 10 0", book, 60, 10, 0);
-    three(b"split 100 20 0", book, 100, 20, 0);
-    three(b"split 0 0 0", book, 0, 0, 0);
-    three(b"split 61 0 120", book, 61, 0, 120);
-    three(b"split 101 0 0", book, 101, 0, 0);
-    three(b"split 0 0 119", book, 0, 0, 119);
-    three(b"split 60 60 0 with demand 0", books::blanks(0), 60, 60, 0);
-    three(
+    of_three(b"split 60 60 0", book, 60, 60, 0);
+    of_three(b"split 60 10 0", book, 60, 10, 0);
+    of_three(b"split 100 20 0", book, 100, 20, 0);
+    of_three(b"split 0 0 0", book, 0, 0, 0);
+    of_three(b"split 61 0 120", book, 61, 0, 120);
+    of_three(b"split 101 0 0", book, 101, 0, 0);
+    of_three(b"split 0 0 119", book, 0, 0, 119);
+    of_three(b"split 60 60 0 with demand 0", books::blanks(0), 60, 60, 0);
+    of_three(
         b"split 60 60 0 with demand 301",
         books::blanks(301),
         60,
@@ -51,7 +51,7 @@ fn gap() {
         books::segment(61, 100, 350, -500),
     );
     let book = books::three(120, gapped, books::bid8(), books::bid12());
-    three(b"split 55 60 0 with a gap from 51 to 60", book, 55, 60, 0);
+    of_three(b"split 55 60 0 with a gap from 51 to 60", book, 55, 60, 0);
 }
 
 // A price beyond 32 bits.

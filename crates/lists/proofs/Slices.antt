@@ -1,14 +1,14 @@
 -- The part of a list that a loop has still to go through, from an index to an end. Assumes nothing.
-use Prim.Native.Nat.{ℕ, _+_, _≤_, _<_, min}
+use Prim.Native.Nat.{ℕ, zero, suc, _+_, _≤_, _<_, min}
 use native.Mathlib.Numerals.{add-one}
 use native.Mathlib.Omega.{arith}
 use mathlib.Core.Bool.{Bool, true, false}
 use mathlib.Core.List.{List, [], _∷_, map}
-use mathlib.Core.Path.{_≡_, refl, sym, _∙_}
+use mathlib.Core.Path.{_≡_, refl, sym, ap, _∙_}
 use borrow.Author.Tests.{leb-true, leb-false}
 use lib.Dec.{leb}
-use lib.ListN.{length, getD, take, length-map}
-use lib.Seq.{slice, slice-cons, slice-empty, take-all}
+use lib.ListN.{length, getD, take, drop, length-map}
+use lib.Seq.{slice, slice-cons, slice-empty, drop-cons, take-all}
 
 module _ {A : Type 0} where
   -- a turn takes the element at the index
@@ -18,6 +18,15 @@ module _ {A : Type 0} where
   -- after the last turn nothing is left
   pub slice-done : (xs : List A) (i n : ℕ) → i ≤ n → n ≤ i → slice i n xs ≡ []
   slice-done xs i n h k = let e : i ≡ n = omega arith in rw e (slice-empty n xs)
+
+  -- of a list to its end
+  pub drop-next : (xs : List A) (i : ℕ) (d : A) → i < length xs → drop i xs ≡ getD xs i d ∷ drop (i + 1) xs
+  drop-next xs i d h = rw add-one (drop-cons xs i d h)
+
+pub map-take : {A B : Type 0} (f : A → B) (n : ℕ) (xs : List A) → map f (take n xs) ≡ take n (map f xs)
+map-take f zero xs = refl
+map-take f (suc n) [] = refl
+map-take f (suc n) (x ∷ xs) = ap (λ ys. f x ∷ ys) (map-take f n xs)
 
 -- the length of an array of structs, from what holding it tells
 pub length-held : (X Y : Type 0) (f : X → Y) (xs : List X) (n : ℕ) → length (map f xs) ≡ n → length xs ≡ n

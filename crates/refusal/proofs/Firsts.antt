@@ -7,7 +7,7 @@ use mathlib.Core.Path.{_≡_, refl}
 use Rattle.refusal.specs.declared.Rule.{Rule}
 use Rattle.refusal.specs.declared.Verdict.{Verdict}
 use Rattle.refusal.specs.declared.Verdict.the-variants.{Accepted, Refused}
-use Rattle.refusal.specs.Checks.{keeps, firstOf}
+use Rattle.refusal.specs.Checks.{unless, firstOf}
 
 -- no refusal is an acceptance
 pub refused-not : {A : Type 0} {rule : Rule} {place : ℕ} → Refused rule place ≡ Accepted → A
@@ -25,6 +25,6 @@ pub rest-passed : (v : Verdict) (vs : List Verdict) → firstOf (v ∷ vs) ≡ A
 rest-passed Accepted vs e = e
 rest-passed (Refused rule place) vs e = refused-not e
 
-pub kept : (t : Bool) (rule : Rule) (place : ℕ) → keeps t rule place ≡ Accepted → t ≡ true
-kept true rule place e = refl
-kept false rule place e = refused-not e
+pub test-holds : (t : Bool) (rule : Rule) (place : ℕ) → unless t rule place ≡ Accepted → t ≡ true
+test-holds true rule place e = refl
+test-holds false rule place e = refused-not e

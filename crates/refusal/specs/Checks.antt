@@ -1,4 +1,4 @@
--- Checks in a stated order: the first that fails is the refusal.
+-- Checks in a stated order: the first whose test fails gives the refusal.
 use Prim.Native.Nat.{ℕ}
 use mathlib.Core.Bool.{Bool, true, false}
 use mathlib.Core.List.{List, [], _∷_}
@@ -6,13 +6,18 @@ use Rattle.refusal.specs.declared.Rule.{Rule}
 use Rattle.refusal.specs.declared.Verdict.{Verdict}
 use Rattle.refusal.specs.declared.Verdict.the-variants.{Accepted, Refused}
 
--- a rule that is kept refuses nothing
-abbrev pub keeps : Bool → Rule → ℕ → Verdict
-keeps true rule place = Accepted
-keeps false rule place = Refused rule place
+-- refused by the rule at the place, unless the test holds
+abbrev pub unless : Bool → Rule → ℕ → Verdict
+unless true rule place = Accepted
+unless false rule place = Refused rule place
 
 -- the first refusal, or accepted where there is none
 abbrev pub firstOf : List Verdict → Verdict
 firstOf [] = Accepted
 firstOf (Accepted ∷ checks) = firstOf checks
 firstOf (Refused rule place ∷ checks) = Refused rule place
+
+-- what is given beside a verdict: a value where nothing is refused, and else its zero
+abbrev pub whenAccepted : {A : Type 0} → Verdict → A → A → A
+whenAccepted Accepted value zero = value
+whenAccepted (Refused rule place) value zero = zero

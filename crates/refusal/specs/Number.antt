@@ -1,7 +1,7 @@
 -- The numbers and places of document 01, section "What is turned down".
 use Prim.Native.Nat.{ℕ}
 use Rattle.refusal.specs.declared.Rule.{Rule}
-use Rattle.refusal.specs.declared.Rule.the-variants.{TextLength, Shape, BidCount, SegmentCount, Range, BidderOrder, SegmentOrder, NegativePrice, NotCovered, OutputLength, OffCurve}
+use Rattle.refusal.specs.declared.Rule.the-variants.{TextLength, Shape, BidCount, SegmentCount, Range, BidderOrder, SegmentOrder, NegativePrice, NotCovered, OutputLength, SplitQuantity}
 use Rattle.refusal.specs.declared.Verdict.{Verdict}
 use Rattle.refusal.specs.declared.Verdict.the-variants.{Accepted, Refused}
 
@@ -16,7 +16,7 @@ ruleNumber SegmentOrder = 7  -- a start above its end, or not above the end befo
 ruleNumber NegativePrice = 8  -- a negative price at a start
 ruleNumber NotCovered = 9  -- no allocation meets the demand exactly
 ruleNumber OutputLength = 10  -- the lent output is shorter than the text or sheet
-ruleNumber OffCurve = 11  -- a proposed quantity missing, neither 0 nor on a segment, or one too many
+ruleNumber SplitQuantity = 11  -- a proposed quantity missing, neither 0 nor on a segment, or one too many
 
 -- the number and the place that a verdict shows; 0 and 0 where nothing is refused
 abbrev pub numberOf : Verdict → ℕ

@@ -14,7 +14,7 @@ pub enum Rule {
     NegativePrice,
     NotCovered,
     OutputLength,
-    OffCurve,
+    SplitQuantity,
 }
 
 // Accepted, or refused by a rule at a place (a line, a place in the text or a length).
@@ -40,7 +40,7 @@ pub fn number(verdict: Verdict) -> u64
             Rule::NegativePrice => 8,
             Rule::NotCovered => 9,
             Rule::OutputLength => 10,
-            Rule::OffCurve => 11,
+            Rule::SplitQuantity => 11,
         },
     }
 }

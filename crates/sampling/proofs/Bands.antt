@@ -5,7 +5,7 @@ use native.Mathlib.Nat.{le-of-suc-le-suc, not-suc-le-zero}
 use native.Mathlib.Omega.{arith}
 use mathlib.Core.Bool.{Bool, true, false, _&&_, and-false}
 use mathlib.Core.List.{List, [], _∷_}
-use mathlib.Core.Path.{_≡_, refl, _∙_}
+use mathlib.Core.Path.{_≡_, refl, ap}
 use borrow.Author.Tests.{ltb-true, lt-ltb, le-leb, lt-leb, leb-true, leb-false}
 use lib.Dec.{leb, ltb, lit≤}
 use lib.ListN.{length, getD}
@@ -29,7 +29,7 @@ highestBefore before bs zero = before
 highestBefore before bs (suc k) = bandAt bs k .highest
 
 -- q lies in band k
-pub record Lies (before : ℕ) (bs : List Band) (k q : ℕ) : Type 0 where
+pub record LiesIn (before : ℕ) (bs : List Band) (k q : ℕ) : Type 0 where
   pub there : k < length bs
   pub above : highestBefore before bs k < q
   pub within : q ≤ bandAt bs k .highest
@@ -49,11 +49,11 @@ above-start before (b ∷ bs) (suc (suc k)) r h =
     omega (arith, first-rises before b bs r, above-start (b .highest) bs (suc k) (rest-rises before b bs r) (le-of-suc-le-suc h))
 
 -- the bands before k are passed
-tail-lies : (before : ℕ) (b : Band) (bs : List Band) (k q : ℕ) → Lies before (b ∷ bs) (suc k) q → Lies (b .highest) bs k q
+tail-lies : (before : ℕ) (b : Band) (bs : List Band) (k q : ℕ) → LiesIn before (b ∷ bs) (suc k) q → LiesIn (b .highest) bs k q
 tail-lies before b bs zero q l = record { there = le-of-suc-le-suc (l .there); above = l .above; within = l .within }
 tail-lies before b bs (suc k) q l = record { there = le-of-suc-le-suc (l .there); above = l .above; within = l .within }
 
-in-band : (before : ℕ) (bs : List Band) (k q : ℕ) → rising before bs ≡ true → Lies before bs k q → sampleAbove before bs q ≡ bandAt bs k .sample
+in-band : (before : ℕ) (bs : List Band) (k q : ℕ) → rising before bs ≡ true → LiesIn before bs k q → sampleAbove before bs q ≡ bandAt bs k .sample
 unfolding sampleAbove
 in-band before [] k q r l = absurd (not-suc-le-zero (l .there))
 in-band before (b ∷ bs) zero q r l = rw (lt-ltb before q (l .above), le-leb q (b .highest) (l .within))
@@ -63,17 +63,30 @@ in-band before (b ∷ bs) (suc k) q r l =
     let past : b .highest < q = omega (arith, above-start (b .highest) bs k s (t .there), t .above) in
     rw (lt-leb q (b .highest) past, and-false) (in-band (b .highest) bs k q s t)
 
+-- a quantity lies in no second band
+one-band : (before : ℕ) (bs : List Band) (j k q : ℕ) → rising before bs ≡ true → LiesIn before bs j q → LiesIn before bs k q → j ≡ k
+one-band before [] j k q r l m = absurd (not-suc-le-zero (l .there))
+one-band before (b ∷ bs) zero zero q r l m = refl
+one-band before (b ∷ bs) zero (suc k) q r l m =
+    let t = tail-lies before b bs k q m in
+    absurd (omega (arith, l .within, above-start (b .highest) bs k (rest-rises before b bs r) (t .there), t .above))
+one-band before (b ∷ bs) (suc j) zero q r l m =
+    let t = tail-lies before b bs j q l in
+    absurd (omega (arith, m .within, above-start (b .highest) bs j (rest-rises before b bs r) (t .there), t .above))
+one-band before (b ∷ bs) (suc j) (suc k) q r l m =
+    ap suc (one-band (b .highest) bs j k q (rest-rises before b bs r) (tail-lies before b bs j q l) (tail-lies before b bs k q m))
+
 -- a quantity that some band reaches lies in one
-later-lies : (before : ℕ) (b : Band) (bs : List Band) (k q : ℕ) → Lies (b .highest) bs k q → Lies before (b ∷ bs) (suc k) q
+later-lies : (before : ℕ) (b : Band) (bs : List Band) (k q : ℕ) → LiesIn (b .highest) bs k q → LiesIn before (b ∷ bs) (suc k) q
 later-lies before b bs zero q l = record { there = suc-le-suc (l .there); above = l .above; within = l .within }
 later-lies before b bs (suc k) q l = record { there = suc-le-suc (l .there); above = l .above; within = l .within }
 
-reached : (before : ℕ) (bs : List Band) (n q : ℕ) → n < length bs → before < q → q ≤ bandAt bs n .highest → (k : ℕ) × Lies before bs k q
+reached : (before : ℕ) (bs : List Band) (n q : ℕ) → n < length bs → before < q → q ≤ bandAt bs n .highest → (k : ℕ) × LiesIn before bs k q
 reached before [] n q h low high = absurd (not-suc-le-zero h)
 reached before (b ∷ bs) zero q h low high = (0, record { there = h; above = low; within = high })
 reached before (b ∷ bs) (suc n) q h low high = go (leb q (b .highest)) refl (λ past. reached (b .highest) bs n q (le-of-suc-le-suc h) past high)
   where
-    go : (t : Bool) → leb q (b .highest) ≡ t → (b .highest < q → (k : ℕ) × Lies (b .highest) bs k q) → (k : ℕ) × Lies before (b ∷ bs) k q
+    go : (t : Bool) → leb q (b .highest) ≡ t → (b .highest < q → (k : ℕ) × LiesIn (b .highest) bs k q) → (k : ℕ) × LiesIn before (b ∷ bs) k q
     go true p later = (0, record { there = omega arith; above = low; within = leb-true q (b .highest) p })
     go false p later = let (k, l) = later (leb-false q (b .highest) p) in (suc k, later-lies before b bs k q l)
 
@@ -93,18 +106,21 @@ pub printed-rises : rising 0 printed ≡ true
 unfolding printed
 printed-rises = refl
 
-pub every-quantity-lies : (q : ℕ) → 1 ≤ q → q ≤ 1000000 → (k : ℕ) × Lies 0 printed k q
+pub every-quantity-lies : (q : ℕ) → 1 ≤ q → q ≤ 1000000 → (k : ℕ) × LiesIn 0 printed k q
 unfolding printed
 every-quantity-lies q low high = reached 0 printed 15 q (lit≤ tt) low high
 
-pub sample-in-band : (k q : ℕ) → Lies 0 printed k q → sampleOf printed q ≡ bandAt printed k .sample
+pub no-second-band : (j k q : ℕ) → LiesIn 0 printed j q → LiesIn 0 printed k q → j ≡ k
+no-second-band j k q l m = one-band 0 printed j k q printed-rises l m
+
+pub sample-in-band : (k q : ℕ) → LiesIn 0 printed k q → sampleOf printed q ≡ bandAt printed k .sample
 unfolding sampleOf
 sample-in-band k q l = in-band 0 printed k q printed-rises l
 
-pub none-samples-none : sampleOf printed 0 ≡ 0
+pub zero-samples-zero : sampleOf printed 0 ≡ 0
 unfolding sampleOf
-none-samples-none = zero-samples 0 printed
+zero-samples-zero = zero-samples 0 printed
 
-pub beyond-samples-none : (q : ℕ) → 1000000 < q → sampleOf printed q ≡ 0
+pub beyond-samples-zero : (q : ℕ) → 1000000 < q → sampleOf printed q ≡ 0
 unfolding sampleOf printed every
-beyond-samples-none q h = beyond 0 1000000 q printed refl h
+beyond-samples-zero q h = beyond 0 1000000 q printed refl h

@@ -1,52 +1,43 @@
 -- A split bid by bid, over what is left of the bids and of the quantities. Assumes nothing.
-use Prim.Native.Nat.{ℕ, _+_, _<_}
-use native.Mathlib.Numerals.{add-one}
+use Prim.Native.Nat.{ℕ, _+_}
 use mathlib.Core.Bool.{true, false}
 use mathlib.Core.List.{List, [], _∷_}
 use mathlib.Core.Path.{_≡_}
-use lib.Dec.{eqb}
 use lib.IntN.{_+ℤ_}
-use lib.ListN.{length, getD, drop}
-use lib.Seq.{drop-cons}
 use Rattle.book.specs.Entries.{BidEntries, BookEntries}
 use Rattle.book.specs.Rules.{bookVerdict}
-use Rattle.refusal.specs.Checks.{firstOf}
 use Rattle.refusal.proofs.Firsts.{only}
 use Rattle.refusal.specs.declared.Rule.{Rule}
-use Rattle.refusal.specs.declared.Rule.the-variants.{OffCurve}
+use Rattle.refusal.specs.declared.Rule.the-variants.{SplitQuantity}
 use Rattle.refusal.specs.declared.Verdict.the-variants.{Accepted, Refused}
-use Rattle.supply.specs.Supply.{curve, offers, priceAt}
+use Rattle.supply.specs.Supply.{supplyOf, offers, priceAt}
 use Rattle.supply.specs.Allocation.{total, costOf}
-use Rattle.split.specs.Split.{splitVerdict, refusedSplit, answer, splitOf}
-
--- a turn takes the quantity at the index
-pub quantity-next : (rs : List ℕ) (i : ℕ) → i < length rs → drop i rs ≡ getD rs i 0 ∷ drop (i + 1) rs
-quantity-next rs i h = rw add-one (drop-cons rs i 0 h)
+use Rattle.split.specs.Split.{quantitiesVerdict, splitVerdict, splitOf, refusedSplit}
 
 module _ (line : ℕ) (bs : List BidEntries) (rs : List ℕ) where
-  pub split-done : bs ≡ [] → rs ≡ [] → splitVerdict line bs rs ≡ Accepted
-  unfolding splitVerdict
+  pub split-done : bs ≡ [] → rs ≡ [] → quantitiesVerdict line bs rs ≡ Accepted
+  unfolding quantitiesVerdict
   split-done e f = rw (e, f)
 
-  pub split-long : (r : ℕ) (rs′ : List ℕ) → bs ≡ [] → rs ≡ r ∷ rs′ → splitVerdict line bs rs ≡ Refused OffCurve line
-  unfolding splitVerdict
+  pub split-long : (r : ℕ) (rs′ : List ℕ) → bs ≡ [] → rs ≡ r ∷ rs′ → quantitiesVerdict line bs rs ≡ Refused SplitQuantity line
+  unfolding quantitiesVerdict
   split-long r rs′ e f = rw (e, f)
 
   module _ (b : BidEntries) (bs′ : List BidEntries) (here : bs ≡ b ∷ bs′) where
-    pub split-short : rs ≡ [] → splitVerdict line bs rs ≡ Refused OffCurve line
-    unfolding splitVerdict
+    pub split-short : rs ≡ [] → quantitiesVerdict line bs rs ≡ Refused SplitQuantity line
+    unfolding quantitiesVerdict
     split-short f = rw (here, f)
 
     module _ (r : ℕ) (rs′ : List ℕ) (this : rs ≡ r ∷ rs′) where
-      pub split-off : offers (curve b) r ≡ false → splitVerdict line bs rs ≡ Refused OffCurve line
-      unfolding splitVerdict
+      pub split-off : offers (supplyOf b) r ≡ false → quantitiesVerdict line bs rs ≡ Refused SplitQuantity line
+      unfolding quantitiesVerdict
       split-off e = rw (here, this, e)
 
-      pub split-next : offers (curve b) r ≡ true → splitVerdict line bs rs ≡ splitVerdict (line + 1) bs′ rs′
-      unfolding splitVerdict
-      split-next e = rw (here, this, e) (only (splitVerdict (line + 1) bs′ rs′))
+      pub split-next : offers (supplyOf b) r ≡ true → quantitiesVerdict line bs rs ≡ quantitiesVerdict (line + 1) bs′ rs′
+      unfolding quantitiesVerdict
+      split-next e = rw (here, this, e) (only (quantitiesVerdict (line + 1) bs′ rs′))
 
-      pub cost-next : costOf bs rs ≡ priceAt (curve b) r +ℤ costOf bs′ rs′
+      pub cost-next : costOf bs rs ≡ priceAt (supplyOf b) r +ℤ costOf bs′ rs′
       unfolding costOf
       cost-next = rw (here, this)
 
@@ -54,14 +45,16 @@ module _ (line : ℕ) (bs : List BidEntries) (rs : List ℕ) where
       unfolding total
       total-next = rw this
 
--- The book's own verdict comes first.
+-- The answer, by its verdict.
 module _ (b : BookEntries) (rs : List ℕ) where
-  pub book-refused : (rule : Rule) (place : ℕ) → bookVerdict b ≡ Refused rule place → refusedSplit (Refused rule place) ≡ splitOf b rs
+  pub refused-split : (rule : Rule) (place : ℕ) → splitVerdict b rs ≡ Refused rule place → refusedSplit (Refused rule place) ≡ splitOf b rs
   unfolding splitOf
-  book-refused rule place e = rw e
+  refused-split rule place e = rw e
 
-  pub book-accepted : bookVerdict b ≡ Accepted → answer (splitVerdict 2 (b .bids) rs) (costOf (b .bids) rs) (eqb (total rs) (b .demand)) ≡ splitOf b rs
-  unfolding splitOf
-  book-accepted e =
-      let first : firstOf (bookVerdict b ∷ splitVerdict 2 (b .bids) rs ∷ []) ≡ splitVerdict 2 (b .bids) rs = rw e (only (splitVerdict 2 (b .bids) rs)) in
-      rw first
+  pub book-refused : (rule : Rule) (place : ℕ) → bookVerdict b ≡ Refused rule place → refusedSplit (Refused rule place) ≡ splitOf b rs
+  unfolding splitVerdict
+  book-refused rule place e = refused-split rule place (rw e)
+
+  pub book-passed : bookVerdict b ≡ Accepted → splitVerdict b rs ≡ quantitiesVerdict 2 (b .bids) rs
+  unfolding splitVerdict
+  book-passed e = rw e (only (quantitiesVerdict 2 (b .bids) rs))

@@ -1,13 +1,11 @@
 // The price of a proposed split: one quantity for each bid, in book order.
 ghost use mathlib.Core.Path.{_≡_};
 ghost use Prim.Native.Nat.{_+_, _≤_};
-ghost use lib.Dec.{eqb};
 ghost use Rattle.book.specs.Entries.{bookEntries};
 ghost use Rattle.book.specs.Rules.{bookVerdict};
-ghost use Rattle.refusal.specs.declared.Rule.the-variants.{OffCurve};
+ghost use Rattle.refusal.specs.declared.Rule.the-variants.{SplitQuantity};
 ghost use Rattle.refusal.specs.declared.Verdict.the-variants.{Accepted, Refused};
-ghost use Rattle.supply.specs.Allocation.{total, costOf};
-ghost use Rattle.split.specs.Split.{refusedSplit, answer, splitVerdict, splitOf};
+ghost use Rattle.split.specs.Split.{refusedSplit, splitOf};
 use book::Book;
 use money::Blanks;
 use money::Cents;
@@ -23,8 +21,7 @@ pub struct SplitPrice {
     pub meets: bool,
 }
 
-// Prices a split of any book by any list of quantities. It is never refused for want of a
-// division: a split is priced whether or not the book can be covered.
+// Prices a split of any book by any list of quantities, whether or not the book can be covered.
 pub fn price_split(book: Book, quantities: &[u64]) -> SplitPrice
     ensures { λ r. ⌜ r ≡ splitOf (bookEntries book) (now (quantities .entry)) ⌝ }
 {
@@ -45,18 +42,18 @@ fn refused(verdict: Verdict) -> SplitPrice
     }
 }
 
-// Rule 11, at the line of the bid with this index.
-fn off_curve(i: usize) -> SplitPrice
+// Rule 11 at the line of the bid with this index, at most one past the last of eight.
+fn refused_at(i: usize) -> SplitPrice
     requires { ⌜ i ≤ 8 ⌝ }
-    ensures { λ r. ⌜ r ≡ refusedSplit (Refused OffCurve (2 + i)) ⌝ }
+    ensures { λ r. ⌜ r ≡ refusedSplit (Refused SplitQuantity (2 + i)) ⌝ }
 {
-    refused(Verdict::Refused(Rule::OffCurve, 2 + i as u64))
+    refused(Verdict::Refused(Rule::SplitQuantity, 2 + i as u64))
 }
 
 // The split of an accepted book.
 fn price_accepted(book: Book, quantities: &[u64]) -> SplitPrice
     requires { ⌜ bookVerdict (bookEntries book) ≡ Accepted ⌝ }
-    ensures { λ r. ⌜ r ≡ answer (splitVerdict 2 (bookEntries book .bids) (now (quantities .entry))) (costOf (bookEntries book .bids) (now (quantities .entry))) (eqb (total (now (quantities .entry))) (book .demand .0)) ⌝ }
+    ensures { λ r. ⌜ r ≡ splitOf (bookEntries book) (now (quantities .entry)) ⌝ }
 {
     let count = book.count;
     let mut price = Cents(0);
@@ -64,20 +61,20 @@ fn price_accepted(book: Book, quantities: &[u64]) -> SplitPrice
     let mut i: usize = 0;
     while i < count {
         if quantities.len() <= i {
-            return off_curve(i);
+            return refused_at(i);
         }
         let quantity = quantities[i];
         let bid = book.bids[i];
         let offer = supply::price_at(bid, Blanks(quantity));
         let Offer::Price(p) = offer else {
-            return off_curve(i);
+            return refused_at(i);
         };
         price = money::plus(price, p);
         sum += quantity;
         i += 1;
     }
     if count < quantities.len() {
-        return off_curve(count);
+        return refused_at(count);
     }
     let demand = book.demand.0;
     SplitPrice {

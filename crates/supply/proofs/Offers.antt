@@ -1,12 +1,12 @@
 -- A supply function segment by segment, and what an offer tells. Assumes nothing.
 use Prim.Native.Nat.{ℕ, _+_, _≤_, _<_}
 use native.Mathlib.Omega.{arith}
-use mathlib.Core.Bool.{Bool, true, false, cond, _||_, false≢true}
+use mathlib.Core.Bool.{Bool, true, false, cond, false≢true}
 use mathlib.Core.List.{List, [], _∷_}
-use mathlib.Core.Path.{_≡_, refl, sym, ap, _∙_}
+use mathlib.Core.Path.{_≡_, refl, ap, _∙_}
 use borrow.Author.Tests.{lt-leb}
-use lib.Dec.{leb, leb·zero}
-use lib.IntN.{ℤ, natAbs}
+use lib.Dec.{leb·zero}
+use lib.IntN.{natAbs}
 use lib.ListN.{length, getD}
 use lib.Seq.{slice}
 use Rattle.lists.specs.Every.{every}
@@ -18,10 +18,10 @@ use Rattle.book.specs.declared.Segment.{Segment}
 use Rattle.book.specs.Entries.{BidEntries}
 use Rattle.book.specs.Rules.{segmentInRange}
 use Rattle.book.proofs.Records.{noSegment}
-use Rattle.book.proofs.InRange.{InRange, in-range, within-high, price-small}
+use Rattle.book.proofs.InRange.{InRange, in-range, within-high, mostBlanks, mostCents, price-small}
 use Rattle.supply.specs.declared.Offer.{Offer}
-use Rattle.supply.specs.declared.Offer.the-variants.{Price, Nothing}
-use Rattle.supply.specs.Supply.{segment0, curve, on, offers, priceAt, offerOf}
+use Rattle.supply.specs.declared.Offer.the-variants.{Price, NotOffered}
+use Rattle.supply.specs.Supply.{segment0, supplyOf, on, offers, priceAt, offerOf}
 
 -- the price on a segment, as an offer
 abbrev pub priced : Segment → ℕ → Offer
@@ -58,12 +58,12 @@ module _ (r : ℕ) (ss : List Segment) (i n : ℕ) (more : i < n) (held : n ≤ 
   pub offer-stop : on here r ≡ true → offerOf (slice i n ss) r ≡ priced here r
   offer-stop e = unrolled ∙ offer-here here (slice (i + 1) n ss) r e
 
-pub offer-done : (r : ℕ) (ss : List Segment) (i n : ℕ) → i ≤ n → n ≤ i → offerOf (slice i n ss) r ≡ Nothing
+pub offer-done : (r : ℕ) (ss : List Segment) (i n : ℕ) → i ≤ n → n ≤ i → offerOf (slice i n ss) r ≡ NotOffered
 unfolding offerOf offers
 offer-done r ss i n h k = ap (λ (l : List Segment). offerOf l r) (slice-done ss i n h k)
 
 -- what an offer tells
-offer-cases : (t : Bool) (price : Cents) (o : Offer) → cond t (Price price) Nothing ≡ o → ((p : Cents) → o ≡ Price p → (t ≡ true) × (price ≡ p)) × (o ≡ Nothing → t ≡ false)
+offer-cases : (t : Bool) (price : Cents) (o : Offer) → cond t (Price price) NotOffered ≡ o → ((p : Cents) → o ≡ Price p → (t ≡ true) × (price ≡ p)) × (o ≡ NotOffered → t ≡ false)
 offer-cases true price o e = (λ p f. (refl, cc), λ f. let z : _≡_ {A = ℕ} 0 1 = cc in absurd (omega arith))
 offer-cases false price o e = (λ p f. let z : _≡_ {A = ℕ} 0 1 = cc in absurd (omega arith), λ f. refl)
 
@@ -73,19 +73,19 @@ offered ss r p e =
     let (t, f) = offer-cases (offers ss r) (record { 0 = priceAt ss r }) (offerOf ss r) refl .0 p e in
     (t, ap (λ (c : Cents). c .0) f)
 
-pub not-offered : (ss : List Segment) (r : ℕ) → offerOf ss r ≡ Nothing → offers ss r ≡ false
+pub not-offered : (ss : List Segment) (r : ℕ) → offerOf ss r ≡ NotOffered → offers ss r ≡ false
 unfolding offerOf
 not-offered ss r e = offer-cases (offers ss r) (record { 0 = priceAt ss r }) (offerOf ss r) refl .1 e
 
 -- A quantity that is offered, and its price, are small where each segment is in range.
 
-pub on-small : (s : Segment) (r : ℕ) → on s r ≡ true → s .end .0 ≤ 1000000 → r ≤ 1000000
+pub on-small : (s : Segment) (r : ℕ) → on s r ≡ true → s .end .0 ≤ mostBlanks → r ≤ mostBlanks
 unfolding on
 on-small s r e h = omega (arith, within-high (s .start .0) (s .end .0) r e)
 
 pub record Small (ss : List Segment) (r : ℕ) : Type 0 where
-  pub quantity : r ≤ 1000000
-  pub price : natAbs (priceAt ss r) ≤ 2000000000000
+  pub quantity : r ≤ mostBlanks
+  pub price : natAbs (priceAt ss r) ≤ mostCents
 
 small-here : (s : Segment) (ss : List Segment) (r : ℕ) → InRange s → on s r ≡ true → Small (s ∷ ss) r
 unfolding priceAt
@@ -114,10 +114,10 @@ nothing-small ss r e =
     let none : r ≡ 0 = omega (arith, within-high 0 0 r e) in
     rw none (record { quantity = omega arith; price = omega arith })
 
-pub curve-small : (b : BidEntries) (r : ℕ) → every segmentInRange (b .segments) ≡ true → offers (curve b) r ≡ true → Small (curve b) r
+pub supply-small : (b : BidEntries) (r : ℕ) → every segmentInRange (b .segments) ≡ true → offers (supplyOf b) r ≡ true → Small (supplyOf b) r
 unfolding offers
-curve-small b r ranges e = go (on segment0 r) refl (λ f. offered-small (b .segments) r ranges (rw f at e))
+supply-small b r ranges e = go (on segment0 r) refl (λ f. offered-small (b .segments) r ranges (rw f at e))
   where
-    go : (t : Bool) → on segment0 r ≡ t → (on segment0 r ≡ false → Small (b .segments) r) → Small (curve b) r
+    go : (t : Bool) → on segment0 r ≡ t → (on segment0 r ≡ false → Small (b .segments) r) → Small (supplyOf b) r
     go true f later = nothing-small (b .segments) r f
     go false f later = small-past segment0 (b .segments) r f (later f)

@@ -2,21 +2,20 @@
 use Prim.Native.Nat.{ℕ, zero, suc, _≤_, _<_}
 use native.Mathlib.Nat.{le-of-suc-le-suc, not-suc-le-zero}
 use native.Mathlib.Omega.{arith}
-use mathlib.Core.Bool.{Bool, true, false, _&&_, and-false}
+use mathlib.Core.Bool.{true, false, _&&_, and-false}
 use mathlib.Core.List.{List, [], _∷_}
 use mathlib.Core.Path.{_≡_, refl, ap}
 use borrow.Author.Tests.{ltb-true, leb-true, lt-leb}
 use lib.Dec.{leb, ltb}
-use lib.IntN.{ℤ}
 use lib.ListN.{length, getD}
 use Rattle.lists.proofs.Tests.{both-left, both-right}
 use Rattle.money.specs.Price.{priceOf}
 use Rattle.book.specs.declared.Segment.{Segment}
 use Rattle.book.specs.Entries.{BidEntries}
 use Rattle.book.specs.Rules.{segmentsRise}
-use Rattle.book.proofs.Accepted.{KeptBid}
+use Rattle.book.proofs.Accepted.{AcceptedBid}
 use Rattle.book.proofs.InRange.{within-low, within-high}
-use Rattle.supply.specs.Supply.{segment0, curve, on, priceAt}
+use Rattle.supply.specs.Supply.{segment0, supplyOf, on, priceAt}
 
 -- segment j of a supply function, from 0 on
 abbrev pub segmentAt : List Segment → ℕ → Segment
@@ -75,9 +74,9 @@ one-there s (t ∷ ts) (suc j) (suc k) r e hj hk oj ok =
     ap suc (one-there t ts j k r (step (s .end .0) t ts e .rest) (le-of-suc-le-suc hj) (le-of-suc-le-suc hk) oj ok)
 
 -- A bid of an accepted book: segment 0 ends at 0, and the others rise above it.
-module _ (b : BidEntries) (kept : KeptBid b) (r : ℕ) where
-  pub the-price : (j : ℕ) → j < length (curve b) → on (segmentAt (curve b) j) r ≡ true → priceAt (curve b) r ≡ priceOf (segmentAt (curve b) j .unit .0) r (segmentAt (curve b) j .fixed .0)
-  the-price j h o = price-there segment0 (b .segments) j r (kept .rises) h o
+module _ (b : BidEntries) (accepted : AcceptedBid b) (r : ℕ) where
+  pub the-price : (j : ℕ) → j < length (supplyOf b) → on (segmentAt (supplyOf b) j) r ≡ true → priceAt (supplyOf b) r ≡ priceOf (segmentAt (supplyOf b) j .unit .0) r (segmentAt (supplyOf b) j .fixed .0)
+  the-price j h o = price-there segment0 (b .segments) j r (accepted .rises) h o
 
-  pub one-segment : (j k : ℕ) → j < length (curve b) → k < length (curve b) → on (segmentAt (curve b) j) r ≡ true → on (segmentAt (curve b) k) r ≡ true → j ≡ k
-  one-segment j k hj hk oj ok = one-there segment0 (b .segments) j k r (kept .rises) hj hk oj ok
+  pub one-segment : (j k : ℕ) → j < length (supplyOf b) → k < length (supplyOf b) → on (segmentAt (supplyOf b) j) r ≡ true → on (segmentAt (supplyOf b) k) r ≡ true → j ≡ k
+  one-segment j k hj hk oj ok = one-there segment0 (b .segments) j k r (accepted .rises) hj hk oj ok

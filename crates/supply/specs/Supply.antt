@@ -8,15 +8,15 @@ use Rattle.book.specs.declared.Segment.{Segment}
 use Rattle.book.specs.Entries.{BidEntries}
 use Rattle.book.specs.Rules.{within}
 use Rattle.supply.specs.declared.Offer.{Offer}
-use Rattle.supply.specs.declared.Offer.the-variants.{Price, Nothing}
+use Rattle.supply.specs.declared.Offer.the-variants.{Price, NotOffered}
 
 -- segment 0 of every bidder is quantity 0 at price 0
 abbrev pub segment0 : Segment
 segment0 = record { start = record { 0 = 0 }; end = record { 0 = 0 }; unit = record { 0 = 0 }; fixed = record { 0 = pos 0 } }
 
--- a bid's supply function, by its segments
-abbrev pub curve : BidEntries → List Segment
-curve b = segment0 ∷ b .segments
+-- a bid's supply function: segment 0, and then the bid's segments
+abbrev pub supplyOf : BidEntries → List Segment
+supplyOf b = segment0 ∷ b .segments
 
 -- a quantity is on a segment from its start to its end, both counted
 unfoldable pub on : Segment → ℕ → Bool
@@ -27,11 +27,11 @@ unfoldable pub offers : List Segment → ℕ → Bool
 offers [] r = false
 offers (s ∷ ss) r = on s r || offers ss r
 
--- r blanks cost what they cost on the segment that r is on
+-- r blanks cost what they cost on the segment that r is on; where r is on none, which is never priced, 0 stands
 unfoldable pub priceAt : List Segment → ℕ → ℤ
 priceAt [] r = pos 0
 priceAt (s ∷ ss) r = cond (on s r) (priceOf (s .unit .0) r (s .fixed .0)) (priceAt ss r)
 
 -- the price where the quantity is offered
 unfoldable pub offerOf : List Segment → ℕ → Offer
-offerOf ss r = cond (offers ss r) (Price (record { 0 = priceAt ss r })) Nothing
+offerOf ss r = cond (offers ss r) (Price (record { 0 = priceAt ss r })) NotOffered

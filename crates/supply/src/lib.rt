@@ -5,16 +5,16 @@ ghost use Prim.Native.Nat.{_≤_};
 ghost use Rattle.lists.specs.Every.{every};
 ghost use Rattle.book.specs.Entries.{bidEntries};
 ghost use Rattle.book.specs.Rules.{segmentInRange};
-ghost use Rattle.supply.specs.Supply.{on, curve, offerOf};
+ghost use Rattle.supply.specs.Supply.{on, supplyOf, offerOf};
 use book::Bid;
 use book::Segment;
 use money::Blanks;
 use money::Cents;
 
-// What a bid says to a quantity: its price, or that it is not on offer.
+// The price at which a bid offers a quantity, or that it does not offer it.
 pub enum Offer {
     Price(Cents),
-    Nothing,
+    NotOffered,
 }
 
 // From the start to the end, both counted.
@@ -27,12 +27,13 @@ fn on_segment(s: Segment, quantity: Blanks) -> bool
     quantity.0 <= s.end.0
 }
 
-// The price of a quantity by the bid of an accepted book. It is pub for the crates that price
-// splits of such a book; in it each segment is in range, so that every price fits.
+// The price of a quantity by a bid of an accepted book. It is pub for the crates that price splits
+// of such a book. There the record holds each segment that the bid counts, and each is in range, so
+// that every price fits.
 pub fn price_at(bid: Bid, quantity: Blanks) -> Offer
     requires { ⌜ bid .count ≤ 6 ⌝ }
     requires { ⌜ every segmentInRange (bidEntries bid .segments) ≡ true ⌝ }
-    ensures { λ r. ⌜ r ≡ offerOf (curve (bidEntries bid)) (quantity .0) ⌝ }
+    ensures { λ r. ⌜ r ≡ offerOf (supplyOf (bidEntries bid)) (quantity .0) ⌝ }
 {
     if quantity.0 == 0 {
         return Offer::Price(Cents(0));
@@ -47,5 +48,5 @@ pub fn price_at(bid: Bid, quantity: Blanks) -> Offer
         }
         i += 1;
     }
-    Offer::Nothing
+    Offer::NotOffered
 }

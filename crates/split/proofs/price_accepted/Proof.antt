@@ -7,11 +7,11 @@ use lib.ListN.{length, getD}
 use Rattle.lists.proofs.Slices.{length-held}
 use Rattle.book.specs.Entries.{BidEntries, bidEntries}
 use Rattle.book.proofs.Records.{noBid}
-use Rattle.book.proofs.Accepted.{KeptBid, few-bids, bid-at}
-use Rattle.refusal.specs.declared.Rule.the-variants.{OffCurve}
+use Rattle.book.proofs.Accepted.{AcceptedBid, few-bids, bid-at}
+use Rattle.refusal.specs.declared.Rule.the-variants.{SplitQuantity}
 use Rattle.refusal.specs.declared.Verdict.the-variants.{Refused}
-use Rattle.supply.specs.Supply.{curve, offers, priceAt}
-use Rattle.supply.proofs.Offers.{Small, offered, not-offered, curve-small}
+use Rattle.supply.specs.Supply.{supplyOf, offers, priceAt}
+use Rattle.supply.proofs.Offers.{Small, offered, not-offered, supply-small}
 use Rattle.split.specs.Split.{refusedSplit}
 use Rattle.split.proofs.Left.{Left, left-all, missing, off, sum-fits, left-next, too-long, complete}
 use Rattle.split.proofs.price_accepted.Statement.{statement}
@@ -23,7 +23,7 @@ Inv-loop quantities book count price₀ sum₀ i₀ price sum i = Left book quan
 abbrev μ-loop : tie.MeasureT-loop
 μ-loop quantities book count price₀ sum₀ i₀ price sum i = count - i
 
--- What is known in the loop: the bids are at most eight, the record holds them, and each keeps the rules.
+-- What is known in the loop: the bids are at most eight, the record holds them, and each unless the rules.
 
 few : (c : tie.At-loop Inv-loop μ-loop) → c .before .before .args .t1 .count ≤ 8
 few c =
@@ -39,8 +39,8 @@ held c =
 abbrev this : tie.In-loop Inv-loop μ-loop → BidEntries
 this c = bidEntries (getD (c .before .before .before .args .t1 .bids) (c .before .loop .i) noBid)
 
-this-kept : (c : tie.In-loop Inv-loop μ-loop) → KeptBid (this c)
-this-kept c =
+this-accepted : (c : tie.In-loop Inv-loop μ-loop) → AcceptedBid (this c)
+this-accepted c =
     let s = c .before .before .before in
     bid-at (s .args .t1) (s .pre) (search (length-held, s .good)) (c .before .loop .i) (c .loop-test .taken)
 
@@ -55,23 +55,23 @@ quantity c = getD (turn c .before .before .before .args .quantities .now) (turn 
 present : (c : tie.After-known-told Inv-loop μ-loop) → turn c .before .loop .i < length (turn c .before .before .before .args .quantities .now)
 present c = c .before .before .before .before .before .before .if1 .left
 
-on-offer : (c : tie.After-known-told Inv-loop μ-loop) → (offers (curve (this (turn c))) (quantity c) ≡ true) × (priceAt (curve (this (turn c))) (quantity c) ≡ c .before .offer .given .0 .0 .0)
-on-offer c = offered (curve (this (turn c))) (quantity c) (c .before .offer .given .0 .0) (sym (c .before .before .before .price-at .ensures) ∙ c .before .offer .given .1)
+on-offer : (c : tie.After-known-told Inv-loop μ-loop) → (offers (supplyOf (this (turn c))) (quantity c) ≡ true) × (priceAt (supplyOf (this (turn c))) (quantity c) ≡ c .before .offer .given .0 .0 .0)
+on-offer c = offered (supplyOf (this (turn c))) (quantity c) (c .before .offer .given .0 .0) (sym (c .before .before .before .price-at .ensures) ∙ c .before .offer .given .1)
 
-small : (c : tie.After-known-told Inv-loop μ-loop) → Small (curve (this (turn c))) (quantity c)
-small c = curve-small (this (turn c)) (quantity c) (this-kept (turn c) .ranges) (on-offer c .0)
+small : (c : tie.After-known-told Inv-loop μ-loop) → Small (supplyOf (this (turn c))) (quantity c)
+small c = supply-small (this (turn c)) (quantity c) (this-accepted (turn c) .ranges) (on-offer c .0)
 
 loop-holds : tie.Need-loop-holds Inv-loop μ-loop
-loop-holds c = left-all _ _
+loop-holds c = left-all _ _ (c .before .pre)
 
-off-curve-requires : tie.Need-off-curve-requires Inv-loop μ-loop
-off-curve-requires c κs = omega (arith, few (c .before .before))
+refused-at-requires : tie.Need-refused-at-requires Inv-loop μ-loop
+refused-at-requires c κs = omega (arith, few (c .before .before))
 
 returns : tie.Need-returns Inv-loop μ-loop
 returns c =
     let l = c .before .before in
     let at = l .before .loop in
-    c .off-curve .ensures ∙ missing _ _ (at .price .0) (at .sum) (at .i) (at .inv) (l .loop-test .taken) (held (l .before)) (c .before .if1 .taken)
+    c .refused-at .ensures ∙ missing _ _ (l .before .before .before .pre) (at .price .0) (at .sum) (at .i) (at .inv) (l .loop-test .taken) (held (l .before)) (c .before .if1 .taken)
 
 mul-quantity : tie.Need-mul-quantity Inv-loop μ-loop
 mul-quantity c = omega (arith, few (c .before .before))
@@ -86,7 +86,7 @@ element-copy-out-bid : tie.Need-element-copy-out-bid Inv-loop μ-loop
 element-copy-out-bid c = omega (arith, few (c .before .before .before))
 
 price-at-requires : tie.Need-price-at-requires Inv-loop μ-loop
-price-at-requires c κs = let kept = this-kept (c .before .before .before) in (kept .count-high, kept .ranges)
+price-at-requires c κs = let kept = this-accepted (c .before .before .before) in (kept .count-high, kept .ranges)
 
 enum-known-offer : tie.Need-enum-known-offer Inv-loop μ-loop
 enum-known-offer c = search needs
@@ -94,8 +94,8 @@ enum-known-offer c = search needs
 enum-told : tie.Need-enum-told Inv-loop μ-loop
 enum-told c = search needs
 
-off-curve-requires-2 : tie.Need-off-curve-requires-2 Inv-loop μ-loop
-off-curve-requires-2 c κs = omega (arith, few (c .before .before .before .before .before .before .before))
+refused-at-requires-2 : tie.Need-refused-at-requires-2 Inv-loop μ-loop
+refused-at-requires-2 c κs = omega (arith, few (c .before .before .before .before .before .before .before))
 
 returns-2 : tie.Need-returns-2 Inv-loop μ-loop
 returns-2 c =
@@ -103,14 +103,14 @@ returns-2 c =
     let e = told .before .before .before .before .before in
     let l = e .before in
     let at = l .before .loop in
-    let absent = not-offered (curve (this l)) _ (sym (told .before .before .price-at .ensures) ∙ told .enum-told .given .1) in
-    c .off-curve2 .ensures ∙ off _ _ (at .price .0) (at .sum) (at .i) (at .inv) (l .loop-test .taken) (held (l .before)) (e .if1 .left) absent
+    let absent = not-offered (supplyOf (this l)) _ (sym (told .before .before .price-at .ensures) ∙ told .enum-told .given .1) in
+    c .refused-at2 .ensures ∙ off _ _ (l .before .before .before .pre) (at .price .0) (at .sum) (at .i) (at .inv) (l .loop-test .taken) (held (l .before)) (e .if1 .left) absent
 
 plus-requires : tie.Need-plus-requires Inv-loop μ-loop
 plus-requires c κs =
     let l = turn c in
     let at = l .before .loop in
-    sum-fits _ _ (at .price .0) (at .sum) (at .i) (at .inv) (l .loop-test .taken) (held (l .before)) (present c) (small c) _ (on-offer c .1) (omega (arith, few (l .before)))
+    sum-fits _ _ (l .before .before .before .pre) (at .price .0) (at .sum) (at .i) (at .inv) (l .loop-test .taken) (held (l .before)) (present c) (small c) _ (on-offer c .1) (omega (arith, few (l .before)))
 
 add-sum : tie.Need-add-sum Inv-loop μ-loop
 add-sum c =
@@ -128,23 +128,23 @@ loop-again c =
     let o = c .before in
     let l = turn o in
     let at = l .before .loop in
-    left-next _ _ (at .price .0) (at .sum) (at .i) (at .inv) (l .loop-test .taken) (held (l .before)) (present o) (small o) _ (on-offer o .1) (on-offer o .0) (c .plus .result .0) (c .plus .ensures)
+    left-next _ _ (l .before .before .before .pre) (at .price .0) (at .sum) (at .i) (at .inv) (l .loop-test .taken) (held (l .before)) (present o) (small o) _ (on-offer o .1) (on-offer o .0) (c .plus .result .0) (c .plus .ensures)
 
-off-curve-requires-3 : tie.Need-off-curve-requires-3 Inv-loop μ-loop
-off-curve-requires-3 c κs = few (c .before .before)
+refused-at-requires-3 : tie.Need-refused-at-requires-3 Inv-loop μ-loop
+refused-at-requires-3 c κs = few (c .before .before)
 
 returns-3 : tie.Need-returns-3 Inv-loop μ-loop
 returns-3 c =
     let l = c .before .before in
     let at = l .before .loop in
     let done : l .before .before .before .args .t1 .count ≡ at .i = omega (arith, at .inv .within, l .loop-test .left) in
-    c .off-curve3 .ensures ∙ ap (λ (n : ℕ). refusedSplit (Refused OffCurve (2 + n))) done ∙ too-long _ _ (at .price .0) (at .sum) (at .i) (at .inv) (l .loop-test .left) (omega (arith, c .before .if2 .taken))
+    c .refused-at3 .ensures ∙ ap (λ (n : ℕ). refusedSplit (Refused SplitQuantity (2 + n))) done ∙ too-long _ _ (l .before .before .before .pre) (at .price .0) (at .sum) (at .i) (at .inv) (l .loop-test .left) (omega (arith, c .before .if2 .taken))
 
 returns-4 : tie.Need-returns-4 Inv-loop μ-loop
 returns-4 c =
     let l = c .before in
     let at = l .before .loop in
-    complete _ _ (at .price .0) (at .sum) (at .i) (at .inv) (l .loop-test .left) (omega (arith, c .if2 .left, l .loop-test .left))
+    complete _ _ (l .before .before .before .pre) (at .price .0) (at .sum) (at .i) (at .inv) (l .loop-test .left) (omega (arith, c .if2 .left, l .loop-test .left))
 
 pub price-accepted-spec : {M : Type 1} → statement M
 price-accepted-spec =
@@ -153,7 +153,7 @@ price-accepted-spec =
     Inv-loop
     μ-loop
     loop-holds
-    off-curve-requires
+    refused-at-requires
     returns
     mul-quantity
     shared-slice-read-quantity
@@ -162,13 +162,13 @@ price-accepted-spec =
     price-at-requires
     enum-known-offer
     enum-told
-    off-curve-requires-2
+    refused-at-requires-2
     returns-2
     plus-requires
     add-sum
     add-i
     loop-less
     loop-again
-    off-curve-requires-3
+    refused-at-requires-3
     returns-3
     returns-4)

@@ -1,7 +1,7 @@
-use mathlib.Core.Path.{_≡_, sym, ap, _∙_}
+use mathlib.Core.Path.{sym, ap, _∙_}
 use borrow.Author.Needs.{needs}
 use Rattle.split.specs.Split.{refusedSplit}
-use Rattle.split.proofs.Steps.{book-refused, book-accepted}
+use Rattle.split.proofs.Steps.{book-refused}
 use Rattle.split.proofs.price_split.Statement.{statement}
 use Rattle.split.proofs.price_split.Tie as tie
 
@@ -27,7 +27,7 @@ price-accepted-requires : tie.Need-price-accepted-requires
 price-accepted-requires c κs = sym (c .before .before .check .ensures) ∙ c .enum-told2 .given .1
 
 returns-2 : tie.Need-returns-2
-returns-2 c = c .price-accepted .ensures ∙ book-accepted _ _ (sym (c .before .before .before .check .ensures) ∙ c .before .enum-told2 .given .1)
+returns-2 c = c .price-accepted .ensures
 
 pub price-split-spec : {M : Type 1} → statement M
 price-split-spec =

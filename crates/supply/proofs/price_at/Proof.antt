@@ -1,6 +1,5 @@
-use Prim.Native.Nat.{ℕ, _≤_, _<_, _-_}
-use mathlib.Core.Bool.{true}
-use mathlib.Core.Path.{_≡_, refl, sym, ap, _∙_}
+use Prim.Native.Nat.{_≤_, _-_}
+use mathlib.Core.Path.{_≡_, sym, ap, _∙_}
 use native.Mathlib.Omega.{arith}
 use borrow.Author.Needs.{needs}
 use lib.IntN.{ℤ}
@@ -12,17 +11,16 @@ use Rattle.money.specs.Price.{priceOf}
 use Rattle.book.specs.Entries.{bidEntries}
 use Rattle.book.specs.Rules.{segmentInRange}
 use Rattle.book.proofs.Records.{noSegment}
-use Rattle.book.proofs.InRange.{InRange, in-range, price-fits}
-use Rattle.supply.specs.declared.Offer.{Offer}
+use Rattle.book.proofs.InRange.{in-range, price-fits}
 use Rattle.supply.specs.declared.Offer.the-variants.{Price}
-use Rattle.supply.specs.Supply.{on, curve, offerOf}
+use Rattle.supply.specs.Supply.{supplyOf, offerOf}
 use Rattle.supply.proofs.Offers.{nothing-offered, past-nothing, offer-next, offer-stop, offer-done, on-small}
 use Rattle.supply.proofs.price_at.Statement.{statement}
 use Rattle.supply.proofs.price_at.Tie as tie
 
 abbrev Inv-loop : tie.InvT-loop
 Inv-loop quantity bid i₀ i =
-    (i ≤ bid .count) × (offerOf (curve (bidEntries bid)) (quantity .0) ≡ offerOf (slice i (bid .count) (bid .segments)) (quantity .0))
+    (i ≤ bid .count) × (offerOf (supplyOf (bidEntries bid)) (quantity .0) ≡ offerOf (slice i (bid .count) (bid .segments)) (quantity .0))
 
 abbrev μ-loop : tie.MeasureT-loop
 μ-loop quantity bid i₀ i = bid .count - i

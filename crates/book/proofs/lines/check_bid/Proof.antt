@@ -1,12 +1,12 @@
 use Prim.Native.Nat.{_≤_}
-use mathlib.Core.Bool.{true, _&&_}
+use mathlib.Core.Bool.{true}
 use mathlib.Core.Path.{_≡_}
 use borrow.Author.Needs.{needs}
 use borrow.Author.Tests.{lt-ltb, le-ltb}
-use lib.ListN.{take}
 use Rattle.lists.specs.Every.{every}
-use Rattle.lists.proofs.Tests.{passed, failed, both-right}
-use Rattle.book.specs.Rules.{within, segmentInRange, bidVerdict}
+use Rattle.lists.proofs.Tests.{passed, failed}
+use Rattle.book.specs.Entries.{bidEntries}
+use Rattle.book.specs.Rules.{within, segmentInRange, bidInRange, bidVerdict}
 use Rattle.book.proofs.InRange.{within-high}
 use Rattle.book.proofs.lines.check_bid.Statement.{statement}
 use Rattle.book.proofs.lines.check_bid.Tie as tie
@@ -18,8 +18,15 @@ count-kept c = passed (c .before .within .ensures) (c .if1 .left)
 few : (c : tie.Else1) → c .before .before .args .bid .count ≤ 6
 few c = within-high 1 6 (c .before .before .args .bid .count) (count-kept c)
 
-range-kept : (c : tie.Else2) → let b = c .before .before .before .before .args .bid in (within 1 9999 (b .bidder) && every segmentInRange (take (b .count) (b .segments))) ≡ true
-range-kept c = passed (c .before .bid-in-range .ensures) (c .if2 .left)
+bidder-kept : (c : tie.Else2) → within 1 9999 (c .before .before .before .before .args .bid .bidder) ≡ true
+bidder-kept c = passed (c .before .within2 .ensures) (c .if2 .left)
+
+segments-kept : (c : tie.Else3) → every segmentInRange (bidEntries (c .before .before .before .before .before .before .args .bid) .segments) ≡ true
+segments-kept c = passed (c .before .segments-in-range .ensures) (c .if3 .left)
+
+range-kept : (c : tie.Else3) → bidInRange (bidEntries (c .before .before .before .before .before .before .args .bid)) ≡ true
+unfolding bidInRange
+range-kept c = rw (bidder-kept (c .before .before), segments-kept c)
 
 within-requires : tie.Need-within-requires
 within-requires c κs = search needs
@@ -28,50 +35,58 @@ returns : tie.Need-returns
 unfolding bidVerdict
 returns c = simp (failed (c .before .within .ensures) (c .if1 .taken))
 
-bid-in-range-requires : tie.Need-bid-in-range-requires
-bid-in-range-requires c κs = few c
+within-requires-2 : tie.Need-within-requires-2
+within-requires-2 c κs = search needs
 
 returns-2 : tie.Need-returns-2
-unfolding bidVerdict
-returns-2 c = simp (count-kept (c .before .before), failed (c .before .bid-in-range .ensures) (c .if2 .taken))
+unfolding bidVerdict bidInRange
+returns-2 c = simp (count-kept (c .before .before), failed (c .before .within2 .ensures) (c .if2 .taken))
+
+segments-in-range-requires : tie.Need-segments-in-range-requires
+segments-in-range-requires c κs = few (c .before .before)
 
 returns-3 : tie.Need-returns-3
-unfolding bidVerdict
+unfolding bidVerdict bidInRange
 returns-3 c =
     let e2 = c .before .before in
-    simp (count-kept (e2 .before .before), range-kept e2, le-ltb _ _ (c .if3 .taken))
-
-segments-rise-requires : tie.Need-segments-rise-requires
-segments-rise-requires c κs = few (c .before .before .before .before)
+    simp (count-kept (e2 .before .before), bidder-kept e2, failed (c .before .segments-in-range .ensures) (c .if3 .taken))
 
 returns-4 : tie.Need-returns-4
 unfolding bidVerdict
 returns-4 c =
     let e3 = c .before .before in
-    let e2 = e3 .before .before in
-    simp (count-kept (e2 .before .before), range-kept e2, lt-ltb _ _ (e3 .if3 .left), failed (c .before .segments-rise .ensures) (c .if4 .taken))
+    simp (count-kept (e3 .before .before .before .before), range-kept e3, le-ltb _ _ (c .if4 .taken))
 
-starts-priced-requires : tie.Need-starts-priced-requires
-starts-priced-requires c κs =
-    let e2 = c .before .before .before .before in
-    let b = e2 .before .before .before .before .args .bid in
-    (few (e2 .before .before), both-right (within 1 9999 (b .bidder)) _ (range-kept e2))
+segments-rise-requires : tie.Need-segments-rise-requires
+segments-rise-requires c κs = few (c .before .before .before .before .before .before)
 
 returns-5 : tie.Need-returns-5
 unfolding bidVerdict
 returns-5 c =
     let e4 = c .before .before in
     let e3 = e4 .before .before in
-    let e2 = e3 .before .before in
-    simp (count-kept (e2 .before .before), range-kept e2, lt-ltb _ _ (e3 .if3 .left), passed (e4 .before .segments-rise .ensures) (e4 .if4 .left), failed (c .before .starts-priced .ensures) (c .if5 .taken))
+    simp (count-kept (e3 .before .before .before .before), range-kept e3, lt-ltb _ _ (e4 .if4 .left), failed (c .before .segments-rise .ensures) (c .if5 .taken))
+
+starts-not-negative-requires : tie.Need-starts-not-negative-requires
+starts-not-negative-requires c κs =
+    let e3 = c .before .before .before .before in
+    (few (e3 .before .before .before .before), segments-kept e3)
 
 returns-6 : tie.Need-returns-6
 unfolding bidVerdict
 returns-6 c =
-    let e4 = c .before .before in
+    let e5 = c .before .before in
+    let e4 = e5 .before .before in
     let e3 = e4 .before .before in
-    let e2 = e3 .before .before in
-    simp (count-kept (e2 .before .before), range-kept e2, lt-ltb _ _ (e3 .if3 .left), passed (e4 .before .segments-rise .ensures) (e4 .if4 .left), passed (c .before .starts-priced .ensures) (c .if5 .left))
+    simp (count-kept (e3 .before .before .before .before), range-kept e3, lt-ltb _ _ (e4 .if4 .left), passed (e5 .before .segments-rise .ensures) (e5 .if5 .left), failed (c .before .starts-not-negative .ensures) (c .if6 .taken))
+
+returns-7 : tie.Need-returns-7
+unfolding bidVerdict
+returns-7 c =
+    let e5 = c .before .before in
+    let e4 = e5 .before .before in
+    let e3 = e4 .before .before in
+    simp (count-kept (e3 .before .before .before .before), range-kept e3, lt-ltb _ _ (e4 .if4 .left), passed (e5 .before .segments-rise .ensures) (e5 .if5 .left), passed (c .before .starts-not-negative .ensures) (c .if6 .left))
 
 pub check-bid-spec : {M : Type 1} → statement M
 check-bid-spec =
@@ -79,11 +94,13 @@ check-bid-spec =
     (tie.spec
     within-requires
     returns
-    bid-in-range-requires
+    within-requires-2
     returns-2
+    segments-in-range-requires
     returns-3
-    segments-rise-requires
     returns-4
-    starts-priced-requires
+    segments-rise-requires
     returns-5
-    returns-6)
+    starts-not-negative-requires
+    returns-6
+    returns-7)

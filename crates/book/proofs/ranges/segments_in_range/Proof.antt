@@ -2,19 +2,20 @@ use Prim.Native.Nat.{_≤_, _-_}
 use mathlib.Core.Path.{_≡_, refl, sym, _∙_}
 use native.Mathlib.Omega.{arith}
 use borrow.Author.Needs.{needs}
-use lib.ListN.{length, take}
+use lib.ListN.{length}
 use lib.Seq.{slice}
 use Rattle.lists.specs.Every.{every}
 use Rattle.lists.proofs.Tests.{passed, failed}
 use Rattle.lists.proofs.Slices.{length-held}
 use Rattle.lists.proofs.Everywhere.{every-next, every-stop, every-done}
+use Rattle.book.specs.Entries.{bidEntries}
 use Rattle.book.specs.Rules.{segmentInRange}
 use Rattle.book.proofs.Records.{noSegment}
 use Rattle.book.proofs.ranges.segments_in_range.Statement.{statement}
 use Rattle.book.proofs.ranges.segments_in_range.Tie as tie
 
 abbrev Inv-loop : tie.InvT-loop
-Inv-loop bid i₀ i = (i ≤ bid .count) × (every segmentInRange (take (bid .count) (bid .segments)) ≡ every segmentInRange (slice i (bid .count) (bid .segments)))
+Inv-loop bid i₀ i = (i ≤ bid .count) × (every segmentInRange (bidEntries bid .segments) ≡ every segmentInRange (slice i (bid .count) (bid .segments)))
 
 abbrev μ-loop : tie.MeasureT-loop
 μ-loop bid i₀ i = bid .count - i

@@ -2,19 +2,20 @@ use Prim.Native.Nat.{_≤_, _-_}
 use mathlib.Core.Path.{_≡_, refl, sym, _∙_}
 use native.Mathlib.Omega.{arith}
 use borrow.Author.Needs.{needs}
-use lib.ListN.{length, take}
+use lib.ListN.{length}
 use lib.Seq.{slice}
 use Rattle.lists.specs.Every.{every}
 use Rattle.lists.proofs.Tests.{passed, failed}
 use Rattle.lists.proofs.Slices.{length-held}
 use Rattle.lists.proofs.Everywhere.{every-next, every-stop, every-done, every-within}
-use Rattle.book.specs.Rules.{segmentInRange, startPriced}
+use Rattle.book.specs.Entries.{bidEntries}
+use Rattle.book.specs.Rules.{segmentInRange, startNotNegative}
 use Rattle.book.proofs.Records.{noSegment}
-use Rattle.book.proofs.curve.starts_priced.Statement.{statement}
-use Rattle.book.proofs.curve.starts_priced.Tie as tie
+use Rattle.book.proofs.prices.starts_not_negative.Statement.{statement}
+use Rattle.book.proofs.prices.starts_not_negative.Tie as tie
 
 abbrev Inv-loop : tie.InvT-loop
-Inv-loop bid i₀ i = (i ≤ bid .count) × (every startPriced (take (bid .count) (bid .segments)) ≡ every startPriced (slice i (bid .count) (bid .segments)))
+Inv-loop bid i₀ i = (i ≤ bid .count) × (every startNotNegative (bidEntries bid .segments) ≡ every startNotNegative (slice i (bid .count) (bid .segments)))
 
 abbrev μ-loop : tie.MeasureT-loop
 μ-loop bid i₀ i = bid .count - i
@@ -32,8 +33,8 @@ mul-s c = search needs
 element-copy-out-s : tie.Need-element-copy-out-s Inv-loop μ-loop
 element-copy-out-s c = search needs
 
-start-priced-requires : tie.Need-start-priced-requires Inv-loop μ-loop
-start-priced-requires c κs =
+start-not-negative-requires : tie.Need-start-not-negative-requires Inv-loop μ-loop
+start-not-negative-requires c κs =
     let l = c .before in
     let b = l .before .before .args .t1 in
     every-within segmentInRange (b .segments) (l .before .loop .i) (b .count) noSegment (l .loop-test .taken) (held l) (l .before .before .pre .1)
@@ -42,7 +43,7 @@ returns : tie.Need-returns Inv-loop μ-loop
 returns c =
     let l = c .before .before .before in
     let b = l .before .before .args .t1 in
-    sym (l .before .loop .inv .1 ∙ every-stop startPriced (b .segments) (l .before .loop .i) (b .count) noSegment (l .loop-test .taken) (held l) (failed (c .before .start-priced .ensures) (c .if1 .taken)))
+    sym (l .before .loop .inv .1 ∙ every-stop startNotNegative (b .segments) (l .before .loop .i) (b .count) noSegment (l .loop-test .taken) (held l) (failed (c .before .start-not-negative .ensures) (c .if1 .taken)))
 
 add-i : tie.Need-add-i Inv-loop μ-loop
 add-i c = search needs
@@ -55,16 +56,16 @@ loop-again c =
     let l = c .before .before .before in
     let b = l .before .before .args .t1 in (
       omega arith,
-      l .before .loop .inv .1 ∙ every-next startPriced (b .segments) (l .before .loop .i) (b .count) noSegment (l .loop-test .taken) (held l) (passed (c .before .start-priced .ensures) (c .if1 .left)),
+      l .before .loop .inv .1 ∙ every-next startNotNegative (b .segments) (l .before .loop .i) (b .count) noSegment (l .loop-test .taken) (held l) (passed (c .before .start-not-negative .ensures) (c .if1 .left)),
     )
 
 returns-2 : tie.Need-returns-2 Inv-loop μ-loop
 returns-2 c =
     let b = c .before .before .args .t1 in
-    sym (c .before .loop .inv .1 ∙ every-done startPriced (b .segments) (c .before .loop .i) (b .count) (c .before .loop .inv .0) (c .loop-test .left))
+    sym (c .before .loop .inv .1 ∙ every-done startNotNegative (b .segments) (c .before .loop .i) (b .count) (c .before .loop .inv .0) (c .loop-test .left))
 
-pub starts-priced-spec : {M : Type 1} → statement M
-starts-priced-spec =
+pub starts-not-negative-spec : {M : Type 1} → statement M
+starts-not-negative-spec =
     tie.close
     (tie.spec
     Inv-loop
@@ -72,7 +73,7 @@ starts-priced-spec =
     loop-holds
     mul-s
     element-copy-out-s
-    start-priced-requires
+    start-not-negative-requires
     returns
     add-i
     loop-less

@@ -1,4 +1,4 @@
-// The bytes that the bids of an accepted book take at most.
+// The room figure's part for the bids.
 ghost use mathlib.Core.Path.{_≡_};
 ghost use Prim.Native.Nat.{_+_, _*_, _≤_};
 ghost use Rattle.book.specs.Entries.{bookEntries};
@@ -7,7 +7,8 @@ ghost use Rattle.book.specs.Room.{roomOfBids};
 ghost use Rattle.refusal.specs.declared.Verdict.the-variants.{Accepted};
 use crate::Book;
 
-// 11 for each bid and 45 for each segment of an accepted book.
+// Of an accepted book, whose counts are in their ranges; so the sum is small, which the caller
+// needs to add to it.
 pub fn room_of_bids(book: Book) -> u64
     requires { ⌜ bookVerdict (bookEntries book) ≡ Accepted ⌝ }
     ensures { λ r. ⌜ r ≡ roomOfBids (bookEntries book .bids) ⌝ }

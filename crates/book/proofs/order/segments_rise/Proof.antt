@@ -3,17 +3,18 @@ use mathlib.Core.Path.{_≡_, refl, sym, _∙_}
 use native.Mathlib.Omega.{arith}
 use borrow.Author.Needs.{needs}
 use borrow.Author.Tests.{lt-ltb, le-ltb, le-leb, lt-leb}
-use lib.ListN.{length, take}
+use lib.ListN.{length}
 use lib.Seq.{slice}
 use Rattle.lists.proofs.Slices.{length-held}
+use Rattle.book.specs.Entries.{bidEntries}
 use Rattle.book.specs.Rules.{segmentsRise}
-use Rattle.book.proofs.Rising.{rises-next, falls-back, turned, rises-done}
-use Rattle.book.proofs.curve.segments_rise.Statement.{statement}
-use Rattle.book.proofs.curve.segments_rise.Tie as tie
+use Rattle.book.proofs.Rising.{rises-next, start-not-above, start-above-end, rises-done}
+use Rattle.book.proofs.order.segments_rise.Statement.{statement}
+use Rattle.book.proofs.order.segments_rise.Tie as tie
 
 abbrev Inv-loop : tie.InvT-loop
 Inv-loop bid before₀ i₀ before i =
-    (i ≤ bid .count) × (segmentsRise 0 (take (bid .count) (bid .segments)) ≡ segmentsRise before (slice i (bid .count) (bid .segments)))
+    (i ≤ bid .count) × (segmentsRise 0 (bidEntries bid .segments) ≡ segmentsRise before (slice i (bid .count) (bid .segments)))
 
 abbrev μ-loop : tie.MeasureT-loop
 μ-loop bid before₀ i₀ before i = bid .count - i
@@ -35,14 +36,14 @@ returns c =
     let l = c .before .before .before in
     let b = l .before .before .args .t1 in
     let at = l .before .loop in
-    sym (at .inv .1 ∙ falls-back (at .before) (b .segments) (at .i) (b .count) (l .loop-test .taken) (held l) (le-ltb _ _ (c .if1 .taken)))
+    sym (at .inv .1 ∙ start-not-above (at .before) (b .segments) (at .i) (b .count) (l .loop-test .taken) (held l) (le-ltb _ _ (c .if1 .taken)))
 
 returns-2 : tie.Need-returns-2 Inv-loop μ-loop
 returns-2 c =
     let l = c .before .before .before .before .before in
     let b = l .before .before .args .t1 in
     let at = l .before .loop in
-    sym (at .inv .1 ∙ turned (at .before) (b .segments) (at .i) (b .count) (l .loop-test .taken) (held l) (lt-leb _ _ (c .if2 .taken)))
+    sym (at .inv .1 ∙ start-above-end (at .before) (b .segments) (at .i) (b .count) (l .loop-test .taken) (held l) (lt-leb _ _ (c .if2 .taken)))
 
 add-i : tie.Need-add-i Inv-loop μ-loop
 add-i c = search needs

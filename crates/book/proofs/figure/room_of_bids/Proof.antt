@@ -11,9 +11,9 @@ use Rattle.book.specs.Entries.{bidEntries, bookEntries}
 use Rattle.book.specs.Room.{roomOfBids}
 use Rattle.book.proofs.Records.{noBid}
 use Rattle.book.proofs.Bids.{entriesFrom, entries-next, entries-done}
-use Rattle.book.proofs.Accepted.{KeptBid, few-bids, bid-at}
-use Rattle.book.proofs.bytes.room_of_bids.Statement.{statement}
-use Rattle.book.proofs.bytes.room_of_bids.Tie as tie
+use Rattle.book.proofs.Accepted.{AcceptedBid, few-bids, bid-at}
+use Rattle.book.proofs.figure.room_of_bids.Statement.{statement}
+use Rattle.book.proofs.figure.room_of_bids.Tie as tie
 
 abbrev Inv-loop : tie.InvT-loop
 Inv-loop book room₀ i₀ room i =
@@ -28,7 +28,7 @@ eight c = search (length-held, c .before .good)
 few : (c : tie.At-loop Inv-loop μ-loop) → c .before .args .t1 .count ≤ 8
 few c = few-bids (c .before .args .t1) (c .before .pre) (eight c)
 
-this-bid : (c : tie.In-loop Inv-loop μ-loop) → KeptBid (bidEntries (getD (c .before .before .args .t1 .bids) (c .before .loop .i) noBid))
+this-bid : (c : tie.In-loop Inv-loop μ-loop) → AcceptedBid (bidEntries (getD (c .before .before .args .t1 .bids) (c .before .loop .i) noBid))
 this-bid c = bid-at (c .before .before .args .t1) (c .before .before .pre) (eight (c .before)) (c .before .loop .i) (c .loop-test .taken)
 
 room-next : (bs : List Bid) (i n : ℕ) → i < n → n ≤ length bs → roomOfBids (entriesFrom i n bs) ≡ 11 + 45 * getD bs i noBid .count + roomOfBids (entriesFrom (i + 1) n bs)
