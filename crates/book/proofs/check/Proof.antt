@@ -9,7 +9,7 @@ use Rattle.book.specs.Rules.{within, bookVerdict}
 use Rattle.book.proofs.check.Statement.{statement}
 use Rattle.book.proofs.check.Tie as tie
 
--- what each test left behind
+-- what each test shows
 demand-kept : (c : tie.Else1) → within 1 1000000 (c .before .before .args .book .demand .0) ≡ true
 demand-kept c = passed (c .before .within .ensures) (c .if1 .left)
 

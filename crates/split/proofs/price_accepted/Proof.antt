@@ -23,7 +23,7 @@ Inv-loop quantities book count price₀ sum₀ i₀ price sum i = Left book quan
 abbrev μ-loop : tie.MeasureT-loop
 μ-loop quantities book count price₀ sum₀ i₀ price sum i = count - i
 
--- What is known in the loop: the bids are at most eight, the record holds them, and each unless the rules.
+-- What is known in the loop: the bids are at most eight, the record holds them, and each is accepted.
 
 few : (c : tie.At-loop Inv-loop μ-loop) → c .before .before .args .t1 .count ≤ 8
 few c =

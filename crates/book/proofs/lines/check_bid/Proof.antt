@@ -11,7 +11,7 @@ use Rattle.book.proofs.InRange.{within-high}
 use Rattle.book.proofs.lines.check_bid.Statement.{statement}
 use Rattle.book.proofs.lines.check_bid.Tie as tie
 
--- what each test left behind
+-- what each test shows
 count-kept : (c : tie.Else1) → within 1 6 (c .before .before .args .bid .count) ≡ true
 count-kept c = passed (c .before .within .ensures) (c .if1 .left)
 

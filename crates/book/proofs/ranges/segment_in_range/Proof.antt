@@ -6,7 +6,7 @@ use Rattle.book.specs.Rules.{within, segmentInRange}
 use Rattle.book.proofs.ranges.segment_in_range.Statement.{statement}
 use Rattle.book.proofs.ranges.segment_in_range.Tie as tie
 
--- what each test left behind
+-- what each test shows
 start-kept : (c : tie.Else1) → within 1 1000000 (c .before .before .args .s .start .0) ≡ true
 start-kept c = passed (c .before .within .ensures) (c .if1 .left)
 
