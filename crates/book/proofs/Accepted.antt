@@ -104,13 +104,15 @@ module _ (line before : ℕ) (b : BidEntries) (bs : List BidEntries) (accepted :
       let later = bidsVerdict (line + 1) (b .bidder) bs in
       first-passed later [] (rest-passed (bidVerdict line before b) (later ∷ []) accepted)
 
-pub bids-accepted : (line before : ℕ) (bs : List BidEntries) (d : BidEntries) → bidsVerdict line before bs ≡ Accepted → (i : ℕ) → i < length bs → AcceptedBid (getD bs i d)
+pub bids-accepted : (line before : ℕ) (bs : List BidEntries) (d : BidEntries) → bidsVerdict line before bs ≡ Accepted → (i : ℕ)
+    → i < length bs → AcceptedBid (getD bs i d)
 bids-accepted line before [] d e i h = absurd (not-suc-le-zero h)
 bids-accepted line before (b ∷ bs) d e zero h = first-line line before b bs e .bid
 bids-accepted line before (b ∷ bs) d e (suc i) h = bids-accepted (line + 1) (b .bidder) bs d (later-lines line before b bs e) i (le-of-suc-le-suc h)
 
 -- the bidders rise strictly
-pub bidders-rise : (line before : ℕ) (bs : List BidEntries) (d : BidEntries) → bidsVerdict line before bs ≡ Accepted → (i : ℕ) → suc i < length bs → getD bs i d .bidder < getD bs (suc i) d .bidder
+pub bidders-rise : (line before : ℕ) (bs : List BidEntries) (d : BidEntries) → bidsVerdict line before bs ≡ Accepted → (i : ℕ)
+    → suc i < length bs → getD bs i d .bidder < getD bs (suc i) d .bidder
 bidders-rise line before [] d e i h = absurd (not-suc-le-zero h)
 bidders-rise line before (b ∷ []) d e i h = absurd (not-suc-le-zero (le-of-suc-le-suc h))
 bidders-rise line before (b ∷ c ∷ bs) d e zero h = first-line (line + 1) (b .bidder) c bs (later-lines line before b (c ∷ bs) e) .above
@@ -130,6 +132,7 @@ module _ (b : Book) (accepted : bookVerdict (bookEntries b) ≡ Accepted) (held 
       subst AcceptedBid at (bids-accepted 2 0 (map bidEntries bs) (bidEntries noBid) (book-accepted (bookEntries b) accepted .bids) i l)
 
 -- each segment of such a bid
-pub segment-at : (b : Bid) → AcceptedBid (bidEntries b) → length (b .segments) ≡ 6 → (j : ℕ) → j < b .count → InRange (getD (b .segments) j noSegment)
+pub segment-at : (b : Bid) → AcceptedBid (bidEntries b) → length (b .segments) ≡ 6 → (j : ℕ) → j < b .count
+    → InRange (getD (b .segments) j noSegment)
 segment-at b a held j h =
     in-range (getD (b .segments) j noSegment) (every-within segmentInRange (b .segments) j (b .count) noSegment h (omega (arith, a .count-high)) (a .ranges))

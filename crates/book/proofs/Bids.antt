@@ -17,7 +17,8 @@ use Rattle.book.proofs.Records.{noBid}
 abbrev pub entriesFrom : ℕ → ℕ → List Bid → List BidEntries
 entriesFrom i n bs = map bidEntries (slice i n bs)
 
-pub entries-next : (bs : List Bid) (i n : ℕ) → i < n → n ≤ length bs → entriesFrom i n bs ≡ bidEntries (getD bs i noBid) ∷ entriesFrom (i + 1) n bs
+pub entries-next : (bs : List Bid) (i n : ℕ) → i < n → n ≤ length bs
+    → entriesFrom i n bs ≡ bidEntries (getD bs i noBid) ∷ entriesFrom (i + 1) n bs
 entries-next bs i n h k = ap (map bidEntries) (slice-next bs i n noBid h k)
 
 pub entries-done : (bs : List Bid) (i n : ℕ) → i ≤ n → n ≤ i → entriesFrom i n bs ≡ []
@@ -27,11 +28,13 @@ module _ (line before : ℕ) (bs : List Bid) (i n : ℕ) (more : i < n) (held : 
   abbrev here : Bid
   here = getD bs i noBid
 
-  pub bids-next : bidVerdict line before (bidEntries here) ≡ Accepted → bidsVerdict line before (entriesFrom i n bs) ≡ bidsVerdict (line + 1) (here .bidder) (entriesFrom (i + 1) n bs)
+  pub bids-next : bidVerdict line before (bidEntries here) ≡ Accepted
+      → bidsVerdict line before (entriesFrom i n bs) ≡ bidsVerdict (line + 1) (here .bidder) (entriesFrom (i + 1) n bs)
   unfolding bidsVerdict
   bids-next e = ap (bidsVerdict line before) (entries-next bs i n more held) ∙ rw e (only _)
 
-  pub bids-stop : (rule : Rule) (place : ℕ) → bidVerdict line before (bidEntries here) ≡ Refused rule place → bidsVerdict line before (entriesFrom i n bs) ≡ Refused rule place
+  pub bids-stop : (rule : Rule) (place : ℕ) → bidVerdict line before (bidEntries here) ≡ Refused rule place
+      → bidsVerdict line before (entriesFrom i n bs) ≡ Refused rule place
   unfolding bidsVerdict
   bids-stop rule place e = ap (bidsVerdict line before) (entries-next bs i n more held) ∙ rw e
 

@@ -11,10 +11,9 @@ use lib.Signed.{leZ}
 use mir.Syntax.{w64}
 use mir.Val.{SFits}
 use Rattle.lists.proofs.Tests.{both-left, both-right}
-use Rattle.money.specs.Price.{priceOf}
 use Rattle.money.proofs.Bounds.{price-size, small-fits, between-size}
 use Rattle.book.specs.declared.Segment.{Segment}
-use Rattle.book.specs.Rules.{within, segmentInRange}
+use Rattle.book.specs.Rules.{within, segmentInRange, priceOn}
 
 pub record InRange (s : Segment) : Type 0 where
   pub start-low : 1 ≤ s .start .0
@@ -63,9 +62,9 @@ module _ (s : Segment) (r : ℕ) (range : InRange s) (few : r ≤ mostBlanks) wh
   product-small : s .unit .0 * r ≤ 1000000000000
   product-small = mul-le-mul (range .unit-high) few
 
-  pub price-small : natAbs (priceOf (s .unit .0) r (s .fixed .0)) ≤ mostCents
+  pub price-small : natAbs (priceOn s r) ≤ mostCents
   price-small = omega (arith, price-size (s .unit .0) r (s .fixed .0), product-small, range .fixed-size)
 
   -- what the price rule asks
-  pub price-fits : (s .unit .0 * r < 2 ^ 63) × SFits w64 (priceOf (s .unit .0) r (s .fixed .0))
+  pub price-fits : (s .unit .0 * r < 2 ^ 63) × SFits w64 (priceOn s r)
   price-fits = (omega (arith, product-small), small-fits _ (omega (arith, price-small)))

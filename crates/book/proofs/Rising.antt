@@ -19,7 +19,8 @@ module _ (before : ℕ) (ss : List Segment) (i n : ℕ) (more : i < n) (held : n
   unfolding segmentsRise
   unrolled = ap (segmentsRise before) (slice-next ss i n noSegment more held)
 
-  pub rises-next : ltb before (here .start .0) ≡ true → leb (here .start .0) (here .end .0) ≡ true → segmentsRise before (slice i n ss) ≡ segmentsRise (here .end .0) (slice (i + 1) n ss)
+  pub rises-next : ltb before (here .start .0) ≡ true → leb (here .start .0) (here .end .0) ≡ true
+      → segmentsRise before (slice i n ss) ≡ segmentsRise (here .end .0) (slice (i + 1) n ss)
   rises-next p q = unrolled ∙ rw (p, q)
 
   pub start-not-above : ltb before (here .start .0) ≡ false → segmentsRise before (slice i n ss) ≡ false

@@ -20,7 +20,8 @@ pub same-room : (a b : Book) → SameBook a b → roomOf (bookEntries a) ≡ roo
 same-room a b e = ap roomOf e
 
 -- a bid stored past the count
-pub past-bids : (b : Book) (i : ℕ) (bid : Bid) → b .count ≤ i → SameBook (record { demand = b .demand; count = b .count; bids = set (b .bids) i bid }) b
+pub past-bids : (b : Book) (i : ℕ) (bid : Bid) → b .count ≤ i
+    → SameBook (record { demand = b .demand; count = b .count; bids = set (b .bids) i bid }) b
 past-bids b i bid h =
     ap (λ (bs : List Bid). record { demand = b .demand .0; count = b .count; bids = map bidEntries bs }) (take-set-le (b .count) (b .bids) i bid h)
 
@@ -32,7 +33,8 @@ past-segment : (b : Bid) (j : ℕ) (s : Segment) → b .count ≤ j → bidEntri
 past-segment b j s h =
     ap (λ (ss : List Segment). record { bidder = b .bidder; count = b .count; segments = ss }) (take-set-le (b .count) (b .segments) j s h)
 
-pub past-segments : (b : Book) (i j : ℕ) (s : Segment) → getD (b .bids) i noBid .count ≤ j → SameBook (record { demand = b .demand; count = b .count; bids = set (b .bids) i (withSegment (getD (b .bids) i noBid) j s) }) b
+pub past-segments : (b : Book) (i j : ℕ) (s : Segment) → getD (b .bids) i noBid .count ≤ j
+    → SameBook (record { demand = b .demand; count = b .count; bids = set (b .bids) i (withSegment (getD (b .bids) i noBid) j s) }) b
 past-segments b i j s h =
     let bid = getD (b .bids) i noBid in
     let stored = set (b .bids) i (withSegment bid j s) in

@@ -39,9 +39,13 @@ unfoldable pub segmentsRise : ℕ → List Segment → Bool
 segmentsRise before [] = true
 segmentsRise before (s ∷ ss) = ltb before (s .start .0) && leb (s .start .0) (s .end .0) && segmentsRise (s .end .0) ss
 
+-- r blanks on a segment cost unit price × r + fixed price
+abbrev pub priceOn : Segment → ℕ → ℤ
+priceOn s r = priceOf (s .unit .0) r (s .fixed .0)
+
 -- rule 8: the price at a segment's start is not negative
 unfoldable pub startNotNegative : Segment → Bool
-startNotNegative s = leZ (pos 0) (priceOf (s .unit .0) (s .start .0) (s .fixed .0))
+startNotNegative s = leZ (pos 0) (priceOn s (s .start .0))
 
 -- a bid on its line, after a bid of the bidder `before` (0 where it is the first)
 unfoldable pub bidVerdict : ℕ → ℕ → BidEntries → Verdict

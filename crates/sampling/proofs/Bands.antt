@@ -53,7 +53,8 @@ tail-lies : (before : ℕ) (b : Band) (bs : List Band) (k q : ℕ) → LiesIn be
 tail-lies before b bs zero q l = record { there = le-of-suc-le-suc (l .there); above = l .above; within = l .within }
 tail-lies before b bs (suc k) q l = record { there = le-of-suc-le-suc (l .there); above = l .above; within = l .within }
 
-in-band : (before : ℕ) (bs : List Band) (k q : ℕ) → rising before bs ≡ true → LiesIn before bs k q → sampleAbove before bs q ≡ bandAt bs k .sample
+in-band : (before : ℕ) (bs : List Band) (k q : ℕ) → rising before bs ≡ true → LiesIn before bs k q
+    → sampleAbove before bs q ≡ bandAt bs k .sample
 unfolding sampleAbove
 in-band before [] k q r l = absurd (not-suc-le-zero (l .there))
 in-band before (b ∷ bs) zero q r l = rw (lt-ltb before q (l .above), le-leb q (b .highest) (l .within))
@@ -86,7 +87,8 @@ reached before [] n q h low high = absurd (not-suc-le-zero h)
 reached before (b ∷ bs) zero q h low high = (0, record { there = h; above = low; within = high })
 reached before (b ∷ bs) (suc n) q h low high = go (leb q (b .highest)) refl (λ past. reached (b .highest) bs n q (le-of-suc-le-suc h) past high)
   where
-    go : (t : Bool) → leb q (b .highest) ≡ t → (b .highest < q → (k : ℕ) × LiesIn (b .highest) bs k q) → (k : ℕ) × LiesIn before (b ∷ bs) k q
+    go : (t : Bool) → leb q (b .highest) ≡ t → (b .highest < q → (k : ℕ) × LiesIn (b .highest) bs k q)
+        → (k : ℕ) × LiesIn before (b ∷ bs) k q
     go true p later = (0, record { there = omega arith; above = low; within = leb-true q (b .highest) p })
     go false p later = let (k, l) = later (leb-false q (b .highest) p) in (suc k, later-lies before b bs k q l)
 

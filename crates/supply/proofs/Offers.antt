@@ -16,7 +16,7 @@ use Rattle.money.specs.declared.Cents.{Cents}
 use Rattle.money.specs.Price.{priceOf}
 use Rattle.book.specs.declared.Segment.{Segment}
 use Rattle.book.specs.Entries.{BidEntries}
-use Rattle.book.specs.Rules.{segmentInRange}
+use Rattle.book.specs.Rules.{segmentInRange, priceOn}
 use Rattle.book.proofs.Records.{noSegment}
 use Rattle.book.proofs.InRange.{InRange, in-range, within-high, mostBlanks, mostCents, price-small}
 use Rattle.supply.specs.declared.Offer.{Offer}
@@ -25,7 +25,7 @@ use Rattle.supply.specs.Supply.{segment0, supplyOf, on, offers, priceAt,
 
 -- the price on a segment, as an offer
 abbrev pub priced : Segment → ℕ → Offer
-priced s r = Price (record { 0 = priceOf (s .unit .0) r (s .fixed .0) })
+priced s r = Price (record { 0 = priceOn s r })
 
 pub offer-here : (s : Segment) (ss : List Segment) (r : ℕ) → on s r ≡ true → offerOf (s ∷ ss) r ≡ priced s r
 unfolding offerOf offers priceAt
@@ -63,7 +63,8 @@ unfolding offerOf offers
 offer-done r ss i n h k = ap (λ (l : List Segment). offerOf l r) (slice-done ss i n h k)
 
 -- what an offer tells
-offer-cases : (t : Bool) (price : Cents) (o : Offer) → cond t (Price price) NotOffered ≡ o → ((p : Cents) → o ≡ Price p → (t ≡ true) × (price ≡ p)) × (o ≡ NotOffered → t ≡ false)
+offer-cases : (t : Bool) (price : Cents) (o : Offer) → cond t (Price price) NotOffered ≡ o
+    → ((p : Cents) → o ≡ Price p → (t ≡ true) × (price ≡ p)) × (o ≡ NotOffered → t ≡ false)
 offer-cases true price o e = (λ p f. (refl, cc), λ f. let z : _≡_ {A = ℕ} 0 1 = cc in absurd (omega arith))
 offer-cases false price o e = (λ p f. let z : _≡_ {A = ℕ} 0 1 = cc in absurd (omega arith), λ f. refl)
 
@@ -114,7 +115,8 @@ nothing-small ss r e =
     let none : r ≡ 0 = omega (arith, within-high 0 0 r e) in
     rw none (record { quantity = omega arith; price = omega arith })
 
-pub supply-small : (b : BidEntries) (r : ℕ) → every segmentInRange (b .segments) ≡ true → offers (supplyOf b) r ≡ true → Small (supplyOf b) r
+pub supply-small : (b : BidEntries) (r : ℕ) → every segmentInRange (b .segments) ≡ true → offers (supplyOf b) r ≡ true
+    → Small (supplyOf b) r
 unfolding offers
 supply-small b r ranges e = go (on segment0 r) refl (λ f. offered-small (b .segments) r ranges (rw f at e))
   where

@@ -9,10 +9,9 @@ use borrow.Author.Tests.{ltb-true, leb-true, lt-leb}
 use lib.Dec.{leb, ltb}
 use lib.ListN.{length, getD}
 use Rattle.lists.proofs.Tests.{both-left, both-right}
-use Rattle.money.specs.Price.{priceOf}
 use Rattle.book.specs.declared.Segment.{Segment}
 use Rattle.book.specs.Entries.{BidEntries}
-use Rattle.book.specs.Rules.{segmentsRise}
+use Rattle.book.specs.Rules.{segmentsRise, priceOn}
 use Rattle.book.proofs.Accepted.{AcceptedBid}
 use Rattle.book.proofs.InRange.{within-low, within-high}
 use Rattle.supply.specs.Supply.{segment0, supplyOf, on, priceAt}
@@ -48,7 +47,8 @@ step before s ss e =
     record { above = ltb-true before (s .start .0) (both-left a o front); order = leb-true (s .start .0) (s .end .0) (both-right a o front); rest = both-right (a && o) r e }
 
 -- a quantity on a later segment is above what stands before
-beyond : (before : ℕ) (ss : List Segment) (j r : ℕ) → segmentsRise before ss ≡ true → j < length ss → on (segmentAt ss j) r ≡ true → before < r
+beyond : (before : ℕ) (ss : List Segment) (j r : ℕ) → segmentsRise before ss ≡ true → j < length ss → on (segmentAt ss j) r ≡ true
+    → before < r
 beyond before [] j r e h o = absurd (not-suc-le-zero h)
 beyond before (s ∷ ss) zero r e h o = let t = step before s ss e in omega (arith, t .above, on-low s r o)
 beyond before (s ∷ ss) (suc j) r e h o =
@@ -57,7 +57,8 @@ beyond before (s ∷ ss) (suc j) r e h o =
 
 -- Of a segment and those that rise above its end: a quantity on one of them is on no other, and has the price there.
 
-price-there : (s : Segment) (ss : List Segment) (j r : ℕ) → segmentsRise (s .end .0) ss ≡ true → j < length (s ∷ ss) → on (segmentAt (s ∷ ss) j) r ≡ true → priceAt (s ∷ ss) r ≡ priceOf (segmentAt (s ∷ ss) j .unit .0) r (segmentAt (s ∷ ss) j .fixed .0)
+price-there : (s : Segment) (ss : List Segment) (j r : ℕ) → segmentsRise (s .end .0) ss ≡ true → j < length (s ∷ ss)
+    → on (segmentAt (s ∷ ss) j) r ≡ true → priceAt (s ∷ ss) r ≡ priceOn (segmentAt (s ∷ ss) j) r
 unfolding priceAt
 price-there s ss zero r e h o = rw o
 price-there s [] (suc j) r e h o = absurd (omega arith)
@@ -65,7 +66,8 @@ price-there s (t ∷ ts) (suc j) r e h o =
     let l = le-of-suc-le-suc h in
     rw (off-above s r (beyond (s .end .0) (t ∷ ts) j r e l o)) (price-there t ts j r (step (s .end .0) t ts e .rest) l o)
 
-one-there : (s : Segment) (ss : List Segment) (j k r : ℕ) → segmentsRise (s .end .0) ss ≡ true → j < length (s ∷ ss) → k < length (s ∷ ss) → on (segmentAt (s ∷ ss) j) r ≡ true → on (segmentAt (s ∷ ss) k) r ≡ true → j ≡ k
+one-there : (s : Segment) (ss : List Segment) (j k r : ℕ) → segmentsRise (s .end .0) ss ≡ true → j < length (s ∷ ss) → k < length (s ∷ ss)
+    → on (segmentAt (s ∷ ss) j) r ≡ true → on (segmentAt (s ∷ ss) k) r ≡ true → j ≡ k
 one-there s ss zero zero r e hj hk oj ok = refl
 one-there s ss zero (suc k) r e hj hk oj ok = absurd (omega (arith, on-high s r oj, beyond (s .end .0) ss k r e (le-of-suc-le-suc hk) ok))
 one-there s ss (suc j) zero r e hj hk oj ok = absurd (omega (arith, on-high s r ok, beyond (s .end .0) ss j r e (le-of-suc-le-suc hj) oj))
@@ -75,8 +77,10 @@ one-there s (t ∷ ts) (suc j) (suc k) r e hj hk oj ok =
 
 -- A bid of an accepted book: segment 0 ends at 0, and the others rise above it.
 module _ (b : BidEntries) (accepted : AcceptedBid b) (r : ℕ) where
-  pub the-price : (j : ℕ) → j < length (supplyOf b) → on (segmentAt (supplyOf b) j) r ≡ true → priceAt (supplyOf b) r ≡ priceOf (segmentAt (supplyOf b) j .unit .0) r (segmentAt (supplyOf b) j .fixed .0)
+  pub the-price : (j : ℕ) → j < length (supplyOf b) → on (segmentAt (supplyOf b) j) r ≡ true
+      → priceAt (supplyOf b) r ≡ priceOn (segmentAt (supplyOf b) j) r
   the-price j h o = price-there segment0 (b .segments) j r (accepted .rises) h o
 
-  pub one-segment : (j k : ℕ) → j < length (supplyOf b) → k < length (supplyOf b) → on (segmentAt (supplyOf b) j) r ≡ true → on (segmentAt (supplyOf b) k) r ≡ true → j ≡ k
+  pub one-segment : (j k : ℕ) → j < length (supplyOf b) → k < length (supplyOf b) → on (segmentAt (supplyOf b) j) r ≡ true
+      → on (segmentAt (supplyOf b) k) r ≡ true → j ≡ k
   one-segment j k hj hk oj ok = one-there segment0 (b .segments) j k r (accepted .rises) hj hk oj ok

@@ -3,10 +3,9 @@ use Prim.Native.Nat.{ℕ}
 use mathlib.Core.Bool.{Bool, false, cond, _||_}
 use mathlib.Core.List.{List, [], _∷_}
 use lib.IntN.{ℤ, pos}
-use Rattle.money.specs.Price.{priceOf}
 use Rattle.book.specs.declared.Segment.{Segment}
 use Rattle.book.specs.Entries.{BidEntries}
-use Rattle.book.specs.Rules.{within}
+use Rattle.book.specs.Rules.{within, priceOn}
 use Rattle.supply.specs.declared.Offer.{Offer}
 use Rattle.supply.specs.declared.Offer.the-variants.{Price, NotOffered}
 
@@ -30,7 +29,7 @@ offers (s ∷ ss) r = on s r || offers ss r
 -- r blanks cost what they cost on the segment that r is on; where r is on none, which is never priced, 0 stands
 unfoldable pub priceAt : List Segment → ℕ → ℤ
 priceAt [] r = pos 0
-priceAt (s ∷ ss) r = cond (on s r) (priceOf (s .unit .0) r (s .fixed .0)) (priceAt ss r)
+priceAt (s ∷ ss) r = cond (on s r) (priceOn s r) (priceAt ss r)
 
 -- the price where the quantity is offered
 unfoldable pub offerOf : List Segment → ℕ → Offer

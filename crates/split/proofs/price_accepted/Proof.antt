@@ -52,17 +52,19 @@ turn c = c .before .before .before .before .before .before .before
 abbrev quantity : tie.After-known-told Inv-loop μ-loop → ℕ
 quantity c = getD (turn c .before .before .before .args .quantities .now) (turn c .before .loop .i) 0
 
-present : (c : tie.After-known-told Inv-loop μ-loop) → turn c .before .loop .i < length (turn c .before .before .before .args .quantities .now)
+present : (c : tie.After-known-told Inv-loop μ-loop)
+    → turn c .before .loop .i < length (turn c .before .before .before .args .quantities .now)
 present c = c .before .before .before .before .before .before .if1 .left
 
-on-offer : (c : tie.After-known-told Inv-loop μ-loop) → (offers (supplyOf (this (turn c))) (quantity c) ≡ true) × (priceAt (supplyOf (this (turn c))) (quantity c) ≡ c .before .offer .given .0 .0 .0)
+on-offer : (c : tie.After-known-told Inv-loop μ-loop)
+    → (offers (supplyOf (this (turn c))) (quantity c) ≡ true) × (priceAt (supplyOf (this (turn c))) (quantity c) ≡ c .before .offer .given .0 .0 .0)
 on-offer c = offered (supplyOf (this (turn c))) (quantity c) (c .before .offer .given .0 .0) (sym (c .before .before .before .price-at .ensures) ∙ c .before .offer .given .1)
 
 small : (c : tie.After-known-told Inv-loop μ-loop) → Small (supplyOf (this (turn c))) (quantity c)
 small c = supply-small (this (turn c)) (quantity c) (this-accepted (turn c) .ranges) (on-offer c .0)
 
 loop-holds : tie.Need-loop-holds Inv-loop μ-loop
-loop-holds c = left-all _ _ (c .before .pre)
+loop-holds c = left-all _ _
 
 refused-at-requires : tie.Need-refused-at-requires Inv-loop μ-loop
 refused-at-requires c κs = omega (arith, few (c .before .before))
@@ -71,7 +73,7 @@ returns : tie.Need-returns Inv-loop μ-loop
 returns c =
     let l = c .before .before in
     let at = l .before .loop in
-    c .refused-at .ensures ∙ missing _ _ (l .before .before .before .pre) (at .price .0) (at .sum) (at .i) (at .inv) (l .loop-test .taken) (held (l .before)) (c .before .if1 .taken)
+    c .refused-at .ensures ∙ missing (at .inv) (l .before .before .before .pre) (l .loop-test .taken) (held (l .before)) (c .before .if1 .taken)
 
 mul-quantity : tie.Need-mul-quantity Inv-loop μ-loop
 mul-quantity c = omega (arith, few (c .before .before))
@@ -104,13 +106,13 @@ returns-2 c =
     let l = e .before in
     let at = l .before .loop in
     let absent = not-offered (supplyOf (this l)) _ (sym (told .before .before .price-at .ensures) ∙ told .enum-told .given .1) in
-    c .refused-at2 .ensures ∙ off _ _ (l .before .before .before .pre) (at .price .0) (at .sum) (at .i) (at .inv) (l .loop-test .taken) (held (l .before)) (e .if1 .left) absent
+    c .refused-at2 .ensures ∙ off (at .inv) (l .before .before .before .pre) (l .loop-test .taken) (held (l .before)) (e .if1 .left) absent
 
 plus-requires : tie.Need-plus-requires Inv-loop μ-loop
 plus-requires c κs =
     let l = turn c in
     let at = l .before .loop in
-    sum-fits _ _ (l .before .before .before .pre) (at .price .0) (at .sum) (at .i) (at .inv) (l .loop-test .taken) (held (l .before)) (present c) (small c) _ (on-offer c .1) (omega (arith, few (l .before)))
+    sum-fits (at .inv) (l .before .before .before .pre) (l .loop-test .taken) (held (l .before)) (present c) (small c) _ (on-offer c .1) (omega (arith, few (l .before)))
 
 add-sum : tie.Need-add-sum Inv-loop μ-loop
 add-sum c =
@@ -128,7 +130,7 @@ loop-again c =
     let o = c .before in
     let l = turn o in
     let at = l .before .loop in
-    left-next _ _ (l .before .before .before .pre) (at .price .0) (at .sum) (at .i) (at .inv) (l .loop-test .taken) (held (l .before)) (present o) (small o) _ (on-offer o .1) (on-offer o .0) (c .plus .result .0) (c .plus .ensures)
+    left-next (at .inv) (l .before .before .before .pre) (l .loop-test .taken) (held (l .before)) (present o) (small o) _ (on-offer o .1) (on-offer o .0) (c .plus .result .0) (c .plus .ensures)
 
 refused-at-requires-3 : tie.Need-refused-at-requires-3 Inv-loop μ-loop
 refused-at-requires-3 c κs = few (c .before .before)
@@ -138,13 +140,13 @@ returns-3 c =
     let l = c .before .before in
     let at = l .before .loop in
     let done : l .before .before .before .args .t1 .count ≡ at .i = omega (arith, at .inv .within, l .loop-test .left) in
-    c .refused-at3 .ensures ∙ ap (λ (n : ℕ). refusedSplit (Refused SplitQuantity (2 + n))) done ∙ too-long _ _ (l .before .before .before .pre) (at .price .0) (at .sum) (at .i) (at .inv) (l .loop-test .left) (omega (arith, c .before .if2 .taken))
+    c .refused-at3 .ensures ∙ ap (λ (n : ℕ). refusedSplit (Refused SplitQuantity (2 + n))) done ∙ too-long (at .inv) (l .before .before .before .pre) (l .loop-test .left) (omega (arith, c .before .if2 .taken))
 
 returns-4 : tie.Need-returns-4 Inv-loop μ-loop
 returns-4 c =
     let l = c .before in
     let at = l .before .loop in
-    complete _ _ (l .before .before .before .pre) (at .price .0) (at .sum) (at .i) (at .inv) (l .loop-test .left) (omega (arith, c .if2 .left, l .loop-test .left))
+    complete (at .inv) (l .before .before .before .pre) (l .loop-test .left) (omega (arith, c .if2 .left, l .loop-test .left))
 
 pub price-accepted-spec : {M : Type 1} → statement M
 price-accepted-spec =

@@ -66,7 +66,9 @@ returns-2 c =
     let l = t .before .before .before in
     let a = l .before .before .before .before .args in
     let at = l .before .loop in
-    ap (λ (z : ℤ). Price (record { 0 = z })) (c .price .ensures) ∙ sym (at .inv .1 ∙ offer-stop (a .quantity .0) (a .t1 .segments) (at .i) (a .t1 .count) (l .loop-test .taken) (held l) (sym (t .before .on-segment .ensures) ∙ t .if2 .taken))
+    let there = sym (t .before .on-segment .ensures) ∙ t .if2 .taken in
+    ap (λ (z : ℤ). Price (record { 0 = z })) (c .price .ensures)
+    ∙ sym (at .inv .1 ∙ offer-stop (a .quantity .0) (a .t1 .segments) (at .i) (a .t1 .count) (l .loop-test .taken) (held l) there)
 
 add-i : tie.Need-add-i Inv-loop μ-loop
 add-i c = search needs
@@ -78,9 +80,10 @@ loop-again : tie.Need-loop-again Inv-loop μ-loop
 loop-again c =
     let l = c .before .before .before in
     let a = l .before .before .before .before .args in
-    let at = l .before .loop in (
+    let at = l .before .loop in
+    let off = sym (c .before .on-segment .ensures) ∙ c .if2 .left in (
       omega arith,
-      at .inv .1 ∙ offer-next (a .quantity .0) (a .t1 .segments) (at .i) (a .t1 .count) (l .loop-test .taken) (held l) (sym (c .before .on-segment .ensures) ∙ c .if2 .left),
+      at .inv .1 ∙ offer-next (a .quantity .0) (a .t1 .segments) (at .i) (a .t1 .count) (l .loop-test .taken) (held l) off,
     )
 
 returns-3 : tie.Need-returns-3 Inv-loop μ-loop

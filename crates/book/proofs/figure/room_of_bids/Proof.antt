@@ -28,10 +28,12 @@ eight c = search (length-held, c .before .good)
 few : (c : tie.At-loop Inv-loop μ-loop) → c .before .args .t1 .count ≤ 8
 few c = few-bids (c .before .args .t1) (c .before .pre) (eight c)
 
-this-bid : (c : tie.In-loop Inv-loop μ-loop) → AcceptedBid (bidEntries (getD (c .before .before .args .t1 .bids) (c .before .loop .i) noBid))
+this-bid : (c : tie.In-loop Inv-loop μ-loop)
+    → AcceptedBid (bidEntries (getD (c .before .before .args .t1 .bids) (c .before .loop .i) noBid))
 this-bid c = bid-at (c .before .before .args .t1) (c .before .before .pre) (eight (c .before)) (c .before .loop .i) (c .loop-test .taken)
 
-room-next : (bs : List Bid) (i n : ℕ) → i < n → n ≤ length bs → roomOfBids (entriesFrom i n bs) ≡ 11 + 45 * getD bs i noBid .count + roomOfBids (entriesFrom (i + 1) n bs)
+room-next : (bs : List Bid) (i n : ℕ) → i < n → n ≤ length bs
+    → roomOfBids (entriesFrom i n bs) ≡ 11 + 45 * getD bs i noBid .count + roomOfBids (entriesFrom (i + 1) n bs)
 unfolding roomOfBids
 room-next bs i n h k = ap roomOfBids (entries-next bs i n h k)
 

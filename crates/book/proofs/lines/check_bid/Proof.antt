@@ -6,7 +6,7 @@ use borrow.Author.Tests.{lt-ltb, le-ltb}
 use Rattle.lists.specs.Every.{every}
 use Rattle.lists.proofs.Tests.{passed, failed}
 use Rattle.book.specs.Entries.{bidEntries}
-use Rattle.book.specs.Rules.{within, segmentInRange, bidInRange, bidVerdict}
+use Rattle.book.specs.Rules.{within, segmentInRange, bidInRange, segmentsRise, bidVerdict}
 use Rattle.book.proofs.InRange.{within-high}
 use Rattle.book.proofs.lines.check_bid.Statement.{statement}
 use Rattle.book.proofs.lines.check_bid.Tie as tie
@@ -21,12 +21,17 @@ few c = within-high 1 6 (c .before .before .args .bid .count) (count-kept c)
 bidder-kept : (c : tie.Else2) → within 1 9999 (c .before .before .before .before .args .bid .bidder) ≡ true
 bidder-kept c = passed (c .before .within2 .ensures) (c .if2 .left)
 
-segments-kept : (c : tie.Else3) → every segmentInRange (bidEntries (c .before .before .before .before .before .before .args .bid) .segments) ≡ true
+segments-kept : (c : tie.Else3)
+    → every segmentInRange (bidEntries (c .before .before .before .before .before .before .args .bid) .segments) ≡ true
 segments-kept c = passed (c .before .segments-in-range .ensures) (c .if3 .left)
 
 range-kept : (c : tie.Else3) → bidInRange (bidEntries (c .before .before .before .before .before .before .args .bid)) ≡ true
 unfolding bidInRange
 range-kept c = rw (bidder-kept (c .before .before), segments-kept c)
+
+rise-kept : (c : tie.Else5)
+    → segmentsRise 0 (bidEntries (c .before .before .before .before .before .before .before .before .before .before .args .bid) .segments) ≡ true
+rise-kept c = passed (c .before .segments-rise .ensures) (c .if5 .left)
 
 within-requires : tie.Need-within-requires
 within-requires c κs = search needs
@@ -65,7 +70,9 @@ unfolding bidVerdict
 returns-5 c =
     let e4 = c .before .before in
     let e3 = e4 .before .before in
-    simp (count-kept (e3 .before .before .before .before), range-kept e3, lt-ltb _ _ (e4 .if4 .left), failed (c .before .segments-rise .ensures) (c .if5 .taken))
+    let above = lt-ltb _ _ (e4 .if4 .left) in
+    let fails = failed (c .before .segments-rise .ensures) (c .if5 .taken) in
+    simp (count-kept (e3 .before .before .before .before), range-kept e3, above, fails)
 
 starts-not-negative-requires : tie.Need-starts-not-negative-requires
 starts-not-negative-requires c κs =
@@ -78,7 +85,9 @@ returns-6 c =
     let e5 = c .before .before in
     let e4 = e5 .before .before in
     let e3 = e4 .before .before in
-    simp (count-kept (e3 .before .before .before .before), range-kept e3, lt-ltb _ _ (e4 .if4 .left), passed (e5 .before .segments-rise .ensures) (e5 .if5 .left), failed (c .before .starts-not-negative .ensures) (c .if6 .taken))
+    let above = lt-ltb _ _ (e4 .if4 .left) in
+    let fails = failed (c .before .starts-not-negative .ensures) (c .if6 .taken) in
+    simp (count-kept (e3 .before .before .before .before), range-kept e3, above, rise-kept e5, fails)
 
 returns-7 : tie.Need-returns-7
 unfolding bidVerdict
@@ -86,7 +95,9 @@ returns-7 c =
     let e5 = c .before .before in
     let e4 = e5 .before .before in
     let e3 = e4 .before .before in
-    simp (count-kept (e3 .before .before .before .before), range-kept e3, lt-ltb _ _ (e4 .if4 .left), passed (e5 .before .segments-rise .ensures) (e5 .if5 .left), passed (c .before .starts-not-negative .ensures) (c .if6 .left))
+    let above = lt-ltb _ _ (e4 .if4 .left) in
+    let passes = passed (c .before .starts-not-negative .ensures) (c .if6 .left) in
+    simp (count-kept (e3 .before .before .before .before), range-kept e3, above, rise-kept e5, passes)
 
 pub check-bid-spec : {M : Type 1} → statement M
 check-bid-spec =

@@ -55,8 +55,12 @@ returns : tie.Need-returns Inv-loop μ-loop
 returns c =
     let l = c .before .before .before .before in
     let at = l .before .loop in
-    let verdict = c .enum-told .given in
-    verdict .1 ∙ sym (at .inv .3 ∙ bids-stop (at .line) (at .before) (l .before .before .before .args .t1 .bids) (at .i) (l .before .before .held .result) (l .loop-test .taken) (held l) (verdict .0 .0) (verdict .0 .1 .0) (sym (c .before .before .check-bid .ensures) ∙ verdict .1))
+    let bids = l .before .before .before .args .t1 .bids in
+    let n = l .before .before .held .result in
+    let told = c .enum-told .given in
+    let refused = sym (c .before .before .check-bid .ensures) ∙ told .1 in
+    told .1
+    ∙ sym (at .inv .3 ∙ bids-stop (at .line) (at .before) bids (at .i) n (l .loop-test .taken) (held l) (told .0 .0) (told .0 .1 .0) refused)
 
 enum-told-2 : tie.Need-enum-told-2 Inv-loop μ-loop
 enum-told-2 c = search needs
@@ -73,17 +77,22 @@ loop-less c = search needs
 loop-again : tie.Need-loop-again Inv-loop μ-loop
 loop-again c =
     let l = c .before .before .before .before in
-    let at = l .before .loop in (
+    let at = l .before .loop in
+    let bids = l .before .before .before .args .t1 .bids in
+    let n = l .before .before .held .result in
+    let accepted = sym (c .before .before .check-bid .ensures) ∙ c .enum-told2 .given .1 in (
       omega arith,
       at .inv .1,
       omega (arith, at .inv .2),
-      at .inv .3 ∙ bids-next (at .line) (at .before) (l .before .before .before .args .t1 .bids) (at .i) (l .before .before .held .result) (l .loop-test .taken) (held l) (sym (c .before .before .check-bid .ensures) ∙ c .enum-told2 .given .1),
+      at .inv .3 ∙ bids-next (at .line) (at .before) bids (at .i) n (l .loop-test .taken) (held l) accepted,
     )
 
 returns-2 : tie.Need-returns-2 Inv-loop μ-loop
 returns-2 c =
     let at = c .before .loop in
-    sym (at .inv .3 ∙ bids-done (at .line) (at .before) (c .before .before .before .args .t1 .bids) (at .i) (c .before .before .held .result) (at .inv .0) (c .loop-test .left))
+    let bids = c .before .before .before .args .t1 .bids in
+    let n = c .before .before .held .result in
+    sym (at .inv .3 ∙ bids-done (at .line) (at .before) bids (at .i) n (at .inv .0) (c .loop-test .left))
 
 pub check-bids-spec : {M : Type 1} → statement M
 check-bids-spec =

@@ -40,7 +40,9 @@ returns : tie.Need-returns Inv-loop μ-loop
 returns c =
     let l = c .before .before .before in
     let b = l .before .before .args .t1 in
-    sym (l .before .loop .inv .1 ∙ every-stop segmentInRange (b .segments) (l .before .loop .i) (b .count) noSegment (l .loop-test .taken) (held l) (failed (c .before .segment-in-range .ensures) (c .if1 .taken)))
+    let at = l .before .loop in
+    let fails = failed (c .before .segment-in-range .ensures) (c .if1 .taken) in
+    sym (at .inv .1 ∙ every-stop segmentInRange (b .segments) (at .i) (b .count) noSegment (l .loop-test .taken) (held l) fails)
 
 add-i : tie.Need-add-i Inv-loop μ-loop
 add-i c = search needs
@@ -51,9 +53,11 @@ loop-less c = search needs
 loop-again : tie.Need-loop-again Inv-loop μ-loop
 loop-again c =
     let l = c .before .before .before in
-    let b = l .before .before .args .t1 in (
+    let b = l .before .before .args .t1 in
+    let at = l .before .loop in
+    let passes = passed (c .before .segment-in-range .ensures) (c .if1 .left) in (
       omega arith,
-      l .before .loop .inv .1 ∙ every-next segmentInRange (b .segments) (l .before .loop .i) (b .count) noSegment (l .loop-test .taken) (held l) (passed (c .before .segment-in-range .ensures) (c .if1 .left)),
+      at .inv .1 ∙ every-next segmentInRange (b .segments) (at .i) (b .count) noSegment (l .loop-test .taken) (held l) passes,
     )
 
 returns-2 : tie.Need-returns-2 Inv-loop μ-loop
