@@ -21,11 +21,14 @@ module _ {A : Type 0} (test : A → Bool) where
 
   module _ (xs : List A) (i n : ℕ) (d : A) where
     -- a loop goes on past an element that passes, stops at one that fails, and ends with all passed
+    every-here : (b : Bool) → i < n → n ≤ length xs → test (getD xs i d) ≡ b → every test (slice i n xs) ≡ b && every test (slice (i + 1) n xs)
+    every-here b h k e = every-cons _ _ _ (slice-next xs i n d h k) ∙ ap (λ (c : Bool). c && every test (slice (i + 1) n xs)) e
+
     pub every-next : i < n → n ≤ length xs → test (getD xs i d) ≡ true → every test (slice i n xs) ≡ every test (slice (i + 1) n xs)
-    every-next h k e = every-cons _ _ _ (slice-next xs i n d h k) ∙ ap (λ (b : Bool). b && every test (slice (i + 1) n xs)) e
+    every-next h k e = every-here true h k e
 
     pub every-stop : i < n → n ≤ length xs → test (getD xs i d) ≡ false → every test (slice i n xs) ≡ false
-    every-stop h k e = every-cons _ _ _ (slice-next xs i n d h k) ∙ ap (λ (b : Bool). b && every test (slice (i + 1) n xs)) e
+    every-stop h k e = every-here false h k e
 
   pub every-done : (xs : List A) (i n : ℕ) → i ≤ n → n ≤ i → every test (slice i n xs) ≡ true
   every-done xs i n h k = every-none _ (slice-done xs i n h k)

@@ -17,7 +17,7 @@ firstOf [] = Accepted
 firstOf (Accepted ∷ checks) = firstOf checks
 firstOf (Refused rule place ∷ checks) = Refused rule place
 
--- what is given beside a verdict: a value where nothing is refused, and else its zero
+-- what is given beside a verdict: a value where nothing is refused, and `blank` (zeros, no or none) beside a refusal
 abbrev pub whenAccepted : {A : Type 0} → Verdict → A → A → A
-whenAccepted Accepted value zero = value
-whenAccepted (Refused rule place) value zero = zero
+whenAccepted Accepted value blank = value
+whenAccepted (Refused rule place) value blank = blank
