@@ -4,6 +4,7 @@ ghost use Rattle.book.specs.Entries.{bookEntries};
 ghost use Rattle.book.specs.Rules.{bookVerdict};
 ghost use Rattle.book.specs.Room.{roomOf};
 
+// The parts of the check. The modules are private: what is pub in them serves this crate alone.
 mod figure;
 mod lines;
 mod order;

@@ -23,7 +23,8 @@ pub enum Verdict {
     Refused(Rule, u64),
 }
 
-// The number under which a verdict is shown; 0 where nothing is refused.
+// The number under which a verdict is shown; 0 where nothing is refused. It is pub, as `place` is,
+// for the programs that show a verdict.
 pub fn number(verdict: Verdict) -> u64
     ensures { λ r. ⌜ r ≡ numberOf verdict ⌝ }
 {
