@@ -1,1 +1,3 @@
 pub mod Every
+pub mod All
+pub mod Joined

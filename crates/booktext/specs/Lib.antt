@@ -1,0 +1,3 @@
+pub mod BookText
+pub mod Sayable
+pub mod Record

@@ -1,0 +1,30 @@
+-- The record that a text says: its counts, the entries for which the record has room, and zeros past the counts. A count above the room
+-- stays as it is, so that the rules for a record refuse it.
+use Prim.Native.Nat.{ℕ}
+use mathlib.Core.List.{List, _++_, map}
+use lib.IntN.{pos}
+use lib.ListN.{take, replicate}
+use Rattle.book.specs.declared.Segment.{Segment}
+use Rattle.book.specs.declared.Bid.{Bid}
+use Rattle.book.specs.declared.Book.{Book}
+use Rattle.book.specs.Entries.{BidEntries, BookEntries}
+
+-- the first n of xs, with blanks for those that are missing
+abbrev pub held : {A : Type 0} → ℕ → A → List A → List A
+held n blank xs = take n (xs ++ replicate n blank)
+
+-- all zeros
+abbrev pub emptySegment : Segment
+emptySegment = record { start = record { 0 = 0 }; end = record { 0 = 0 }; unit = record { 0 = 0 }; fixed = record { 0 = pos 0 } }
+
+abbrev pub emptyBid : Bid
+emptyBid = record { bidder = 0; count = 0; segments = replicate 6 emptySegment }
+
+abbrev pub emptyBook : Book
+emptyBook = record { demand = record { 0 = 0 }; count = 0; bids = replicate 8 emptyBid }
+
+unfoldable pub bidRecord : BidEntries → Bid
+bidRecord b = record { bidder = b .bidder; count = b .count; segments = held 6 emptySegment (b .segments) }
+
+unfoldable pub bookRecord : BookEntries → Book
+bookRecord b = record { demand = record { 0 = b .demand }; count = b .count; bids = held 8 emptyBid (map bidRecord (b .bids)) }

@@ -1,0 +1,13 @@
+pub mod Parse
+pub mod Form
+pub mod Word
+pub mod Digits
+pub mod Number
+pub mod Pair
+pub mod Either
+pub mod Via
+pub mod Many
+pub mod Some
+pub mod Signed
+pub mod Whole
+pub mod Place

@@ -1,0 +1,104 @@
+-- Forms at places of a text, as code parses them: from a place, or not at all where parsing has stopped before. Assumes nothing.
+use Prim.Native.Nat.{ℕ, zero, suc, _+_, _-_, _≤_, _<_}
+use native.Mathlib.Omega.{arith}
+use mathlib.Core.Bool.{Bool, true, false}
+use mathlib.Core.List.{List, [], _∷_, _++_}
+use mathlib.Core.Path.{_≡_, refl, sym, ap, _∙_, subst}
+use lib.ListN.{length, drop, length-drop, length-append}
+use Rattle.forms.proofs.Parse.{Parse, parsed, stopped, after}
+use Rattle.forms.proofs.Form.{Form}
+use Rattle.forms.proofs.Pair.{pair, then-parse, Follows}
+use Rattle.forms.proofs.Via.{via, Same}
+
+module _ {A : Type 0} (p : Form A) (t : List ℕ) where
+  -- from the place i to the place e stands the text of a
+  pub record Found (i : ℕ) (a : A) (e : ℕ) : Type 0 where
+    pub finds : p .parse (drop i t) ≡ parsed a (drop e t)
+    pub from : i ≤ e
+    pub to : e ≤ length t
+
+  -- from the place i on, parsing stops at the place e
+  pub record Stops (i e : ℕ) : Type 0 where
+    pub finds : p .parse (drop i t) ≡ stopped (e - i)
+    pub from : i ≤ e
+    pub to : e ≤ length t
+
+  -- going on or stopped, at the place e
+  abbrev pub Gives : ℕ → A → ℕ → Bool → Type 0
+  Gives i a e false = Found i a e
+  Gives i a e true = Stops i e
+
+  -- Parsing from the place i, where it had stopped before or not, gave the value a and now stands at e. Where it had stopped,
+  -- it stands there still; where it has stopped, the value is of no meaning.
+  abbrev pub Reads : ℕ → Bool → A → ℕ → Bool → Type 0
+  Reads i false a e stop = Gives i a e stop
+  Reads i true a e stop = (e ≡ i) × (stop ≡ true)
+
+  pub wide : {i e : ℕ} {a : A} → Found i a e → e ≡ i + length (p .text a)
+  wide {i} {e} {a} f =
+      omega (arith, ap length (p .sound (drop i t) a (drop e t) (f .finds) .1), length-append (p .text a) (drop e t), length-drop i t, length-drop e t, f .from, f .to)
+
+  pub valid : {i e : ℕ} {a : A} → Found i a e → p .Valid a
+  valid {i} {e} {a} f = p .sound (drop i t) a (drop e t) (f .finds) .0
+
+  gives-within : (i e : ℕ) (a : A) (stop : Bool) → Gives i a e stop → e ≤ length t
+  gives-within i e a false g = g .to
+  gives-within i e a true g = g .to
+
+  -- a place stays in the text
+  pub reads-within : (i : ℕ) (before : Bool) (a : A) (e : ℕ) (stop : Bool) → i ≤ length t → Reads i before a e stop → e ≤ length t
+  reads-within i false a e stop h g = gives-within i e a stop g
+  reads-within i true a e stop h g = omega (arith, g .0)
+
+  -- where it goes on, it had gone on before
+  pub reads-found : (i : ℕ) (before : Bool) (a : A) (e : ℕ) (stop : Bool) → stop ≡ false → Reads i before a e stop → (before ≡ false) × Found i a e
+  reads-found i false a e stop q g = (refl, subst (Gives i a e) q g)
+  reads-found i true a e stop q g = absurd (mathlib.Core.Bool.true≢false (sym (g .1) ∙ q))
+
+-- one after the other
+module _ {A B : Type 0} (p : Form A) (q : Form B) (follows : Follows p q) (t : List ℕ) where
+  found-both : {i e g : ℕ} {a : A} {b : B} → Found p t i a e → Found q t e b g → Found (pair p q follows) t i (a, b) g
+  found-both {a = a} f h = record {
+    finds = ap (then-parse p q) (f .finds) ∙ ap (after (length (p .text a)) (λ b. (a, b))) (h .finds);
+    from = omega (arith, f .from, h .from);
+    to = h .to;
+  }
+
+  stops-second : {i e g : ℕ} {a : A} → Found p t i a e → Stops q t e g → Stops (pair p q follows) t i g
+  stops-second {i} {e} {g} {a} f s =
+      let z : length (p .text a) + (g - e) ≡ g - i = omega (arith, wide p t f, s .from) in
+      record {
+        finds = ap (then-parse p q) (f .finds) ∙ ap (after (length (p .text a)) (λ b. (a, b))) (s .finds) ∙ ap (λ (n : ℕ). stopped n) z;
+        from = omega (arith, f .from, s .from);
+        to = s .to;
+      }
+
+  stops-first : {i e : ℕ} → Stops p t i e → Stops (pair p q follows) t i e
+  stops-first s = record { finds = ap (then-parse p q) (s .finds); from = s .from; to = s .to }
+
+  pub reads-both : (i : ℕ) (before : Bool) (a : A) (e : ℕ) (mid : Bool) (b : B) (g : ℕ) (stop : Bool) → Reads p t i before a e mid → Reads q t e mid b g stop
+      → Reads (pair p q follows) t i before (a, b) g stop
+  reads-both i true a e mid b g stop x y = after-stop mid (x .1) y
+    where
+      after-stop : (m : Bool) → m ≡ true → Reads q t e m b g stop → (g ≡ i) × (stop ≡ true)
+      after-stop false k y = absurd (mathlib.Core.Bool.true≢false (sym k))
+      after-stop true k y = (y .0 ∙ x .0, y .1)
+  reads-both i false a e false b g false x y = found-both x y
+  reads-both i false a e false b g true x y = stops-second x y
+  reads-both i false a e true b g stop x y =
+      subst (λ (w : Bool). Gives (pair p q follows) t i (a, b) g w) (sym (y .1)) (subst (λ (k : ℕ). Stops (pair p q follows) t i k) (sym (y .0)) (stops-first x))
+
+-- said of another value
+module _ {A B : Type 0} (p : Form A) (f : A → B) (g : B → A) (Valid : B → Type 0) (text : B → List ℕ) (same : Same p f g Valid text) (t : List ℕ) where
+  abbrev Q : Form B
+  Q = via p f g Valid text same
+
+  gives-via : (i : ℕ) (a : A) (e : ℕ) (stop : Bool) → Gives p t i a e stop → Gives Q t i (f a) e stop
+  gives-via i a e false x = record { finds = ap (after 0 f) (x .finds); from = x .from; to = x .to }
+  gives-via i a e true x =
+      let z : 0 + (e - i) ≡ e - i = omega arith in
+      record { finds = ap (after 0 f) (x .finds) ∙ ap (λ (n : ℕ). stopped n) z; from = x .from; to = x .to }
+
+  pub reads-via : (i : ℕ) (before : Bool) (a : A) (e : ℕ) (stop : Bool) → Reads p t i before a e stop → Reads Q t i before (f a) e stop
+  reads-via i true a e stop x = x
+  reads-via i false a e stop x = gives-via i a e stop x

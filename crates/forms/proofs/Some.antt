@@ -1,0 +1,43 @@
+-- One or more items, as in `Many`. Assumes nothing.
+use Prim.Native.Nat.{ℕ, _≤_}
+use native.Mathlib.Omega.{arith}
+use mathlib.Core.List.{List, [], _∷_}
+use mathlib.Core.Path.{_≡_, refl}
+use lib.ListN.{length}
+use Rattle.lists.specs.All.{All}
+use Rattle.lists.specs.Joined.{joined}
+use Rattle.forms.proofs.Form.{Form, Next}
+use Rattle.forms.proofs.Pair.{pair, Follows}
+use Rattle.forms.proofs.Via.{via, Same}
+use Rattle.forms.proofs.Many.{Headed, many, first-may}
+
+module _ {A : Type 0} (x : ℕ) (p : Form A) (heads : Headed x p) (again : p .May x) where
+  abbrev pub OneOrMore : List A → Type 0
+  OneOrMore xs = (1 ≤ length xs) × All (p .Valid) xs
+
+  pub item-follows : Follows p (many x p heads again)
+  item-follows xs r v h = first-may x p heads xs r v again h
+
+  abbrev pub first-and-more : Form (A × List A)
+  first-and-more = pair p (many x p heads again) item-follows
+
+  abbrev pub listed : A × List A → List A
+  listed y = y .0 ∷ y .1
+
+  abbrev pub split : List A → A × List A
+  split [] = (p .some, [])
+  split (a ∷ xs) = (a, xs)
+
+  split-valid : (xs : List A) → OneOrMore xs → first-and-more .Valid (split xs)
+  split-valid [] v = absurd (omega (arith, v .0))
+  split-valid (a ∷ xs) v = v .1
+
+  split-back : (xs : List A) → OneOrMore xs → listed (split xs) ≡ xs
+  split-back [] v = absurd (omega (arith, v .0))
+  split-back (a ∷ xs) v = refl
+
+  pub same-items : Same first-and-more listed split OneOrMore (joined (p .text))
+  same-items = record { to-valid = split-valid; back = split-back; from-valid = λ y v. (omega arith, v); same-text = λ y v. refl }
+
+  abbrev pub some-of : Form (List A)
+  some-of = via first-and-more listed split OneOrMore (joined (p .text)) same-items
