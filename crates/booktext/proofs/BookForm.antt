@@ -1,8 +1,8 @@
 -- The bid book's text as a form of text. Assumes nothing.
 use Prim.Native.Nat.{ℕ, _≤_, _<_}
 use native.Mathlib.Omega.{arith}
-use mathlib.Core.List.{List, [], _∷_, _++_, append-nil}
-use mathlib.Core.Path.{_≡_, refl, sym, ap, _∙_}
+use mathlib.Core.List.{List, [], _∷_, _++_, append-assoc, append-nil}
+use mathlib.Core.Path.{_≡_, refl, sym, ap, subst}
 use lib.IntN.{ℤ}
 use lib.ListN.{length}
 use Rattle.lists.specs.All.{All}
@@ -16,7 +16,7 @@ use Rattle.forms.proofs.Signed.{signed, from-0}
 use Rattle.forms.proofs.Pair.{pair, Follows}
 use Rattle.forms.proofs.Via.{via, Same}
 use Rattle.forms.proofs.Many.{Headed}
-use Rattle.forms.proofs.Some.{some-of}
+use Rattle.forms.proofs.Some.{some-of, some-headed}
 use Rattle.book.specs.declared.Segment.{Segment}
 use Rattle.book.specs.Entries.{BidEntries, BookEntries}
 use Rattle.booktext.specs.BookText.{segmentText, bidText, bookText}
@@ -44,3 +44,132 @@ number-line b r v h = λ l k. omega arith
 
 pub signed-close : Follows signed (word (ascii ")"))
 signed-close b r v h = (λ l k. omega arith, λ l k. omega arith)
+
+-- a segment: the space before it, the word, three numbers, and one that may have a sign
+abbrev pub Prices : Type 0
+Prices = (ℕ × Unit {0}) × (ℤ × Unit {0})
+
+abbrev pub fixed-close : Form (ℤ × Unit {0})
+fixed-close = pair signed (word (ascii ")")) signed-close
+
+abbrev pub prices : Form Prices
+prices = pair (field (ascii " ") number-space) fixed-close (after-field (ascii " ") number-space fixed-close)
+
+abbrev pub end-prices : Form ((ℕ × Unit {0}) × Prices)
+end-prices = pair (field (ascii " ") number-space) prices (after-field (ascii " ") number-space prices)
+
+abbrev pub start-end-prices : Form ((ℕ × Unit {0}) × ((ℕ × Unit {0}) × Prices))
+start-end-prices = pair (field (ascii " ") number-space) end-prices (after-field (ascii " ") number-space end-prices)
+
+abbrev pub SegmentParts : Type 0
+SegmentParts = Unit {0} × ((ℕ × Unit {0}) × ((ℕ × Unit {0}) × Prices))
+
+abbrev pub segment-parts : Form SegmentParts
+segment-parts = pair (word (ascii " (seg ")) start-end-prices (after-word (ascii " (seg ") start-end-prices)
+
+abbrev pub toSegment : SegmentParts → Segment
+toSegment x = record { start = record { 0 = x .1 .0 .0 }; end = record { 0 = x .1 .1 .0 .0 }; unit = record { 0 = x .1 .1 .1 .0 .0 }; fixed = record { 0 = x .1 .1 .1 .1 .0 } }
+
+abbrev pub fromSegment : Segment → SegmentParts
+fromSegment s = (tt, ((s .start .0, tt), ((s .end .0, tt), ((s .unit .0, tt), (s .fixed .0, tt)))))
+
+pub same-segment : Same segment-parts toSegment fromSegment SayableSegment segmentText
+unfolding segmentText
+same-segment = record {
+  to-valid = λ s v. (tt, (((omega arith, v .start), tt), (((omega arith, v .end), tt), (((omega arith, v .unit), tt), (v .fixed, tt)))));
+  back = λ s v. refl;
+  from-valid = λ x v. record { start = v .1 .0 .0 .1; end = v .1 .1 .0 .0 .1; unit = v .1 .1 .1 .0 .0 .1; fixed = v .1 .1 .1 .1 .0 };
+  same-text = λ x v. simp append-assoc;
+}
+
+abbrev pub segment : Form Segment
+segment = via segment-parts toSegment fromSegment SayableSegment segmentText same-segment
+
+pub segment-space : Headed 32 segment
+unfolding segmentText
+segment-space s v = (_, refl)
+
+-- one or more segments
+abbrev pub segments : Form (List Segment)
+segments = some-of 32 segment segment-space tt
+
+-- a bid's line
+pub segments-close : Follows segments (word (ascii ")\n"))
+segments-close b r v h = (tt, λ e. omega (arith, e))
+
+abbrev pub segments-line : Form (List Segment × Unit {0})
+segments-line = pair segments (word (ascii ")\n")) segments-close
+
+pub number-segments : Follows plain segments-line
+number-segments b r v h =
+    let s = some-headed 32 segment segment-space tt (b .0) (v .0) in
+    subst (λ (t : List ℕ). Next NoDigit ((t ++ ascii ")\n") ++ r)) (sym (s .1)) (λ l k. omega arith)
+
+abbrev pub bidder-segments : Form (ℕ × (List Segment × Unit {0}))
+bidder-segments = pair plain segments-line number-segments
+
+abbrev pub BidParts : Type 0
+BidParts = Unit {0} × (ℕ × (List Segment × Unit {0}))
+
+abbrev pub bid-parts : Form BidParts
+bid-parts = pair (word (ascii "(bid ")) bidder-segments (after-word (ascii "(bid ") bidder-segments)
+
+abbrev pub bidOf : ℕ → List Segment → BidEntries
+bidOf n xs = record { bidder = n; count = length xs; segments = xs }
+
+abbrev pub toBid : BidParts → BidEntries
+toBid x = bidOf (x .1 .0) (x .1 .1 .0)
+
+abbrev pub fromBid : BidEntries → BidParts
+fromBid b = (tt, (b .bidder, (b .segments, tt)))
+
+pub same-bid : Same bid-parts toBid fromBid SayableBid bidText
+unfolding bidText
+same-bid = record {
+  to-valid = λ b v. (tt, ((omega arith, v .bidder), ((omega (arith, v .count, v .some), v .segments), tt)));
+  back = λ b v. ap (λ (n : ℕ). record { bidder = b .bidder; count = n; segments = b .segments }) (sym (v .count));
+  from-valid = λ x v. record { bidder = v .1 .0 .1; count = refl; some = v .1 .1 .0 .0; segments = v .1 .1 .0 .1 };
+  same-text = λ x v. simp append-assoc;
+}
+
+abbrev pub bid : Form BidEntries
+bid = via bid-parts toBid fromBid SayableBid bidText same-bid
+
+pub bid-open : Headed 40 bid
+unfolding bidText
+bid-open b v = (_, refl)
+
+-- one or more bids
+abbrev pub bids : Form (List BidEntries)
+bids = some-of 40 bid bid-open tt
+
+-- the demand's line, and then the bids
+abbrev pub demand-bids : Form ((ℕ × Unit {0}) × List BidEntries)
+demand-bids = pair (field (ascii ")\n") number-line) bids (after-field (ascii ")\n") number-line bids)
+
+abbrev pub BookParts : Type 0
+BookParts = Unit {0} × ((ℕ × Unit {0}) × List BidEntries)
+
+abbrev pub book-parts : Form BookParts
+book-parts = pair (word (ascii "(demand ")) demand-bids (after-word (ascii "(demand ") demand-bids)
+
+abbrev pub bookOf : ℕ → List BidEntries → BookEntries
+bookOf n xs = record { demand = n; count = length xs; bids = xs }
+
+abbrev pub toBook : BookParts → BookEntries
+toBook x = bookOf (x .1 .0 .0) (x .1 .1)
+
+abbrev pub fromBook : BookEntries → BookParts
+fromBook b = (tt, ((b .demand, tt), b .bids))
+
+pub same-book : Same book-parts toBook fromBook SayableBook bookText
+unfolding bookText
+same-book = record {
+  to-valid = λ b v. (tt, (((omega arith, v .demand), tt), (omega (arith, v .count, v .some), v .bids)));
+  back = λ b v. ap (λ (n : ℕ). record { demand = b .demand; count = n; bids = b .bids }) (sym (v .count));
+  from-valid = λ x v. record { demand = v .1 .0 .0 .1; count = refl; some = v .1 .1 .0; bids = v .1 .1 .1 };
+  same-text = λ x v. simp append-assoc;
+}
+
+abbrev pub book : Form BookEntries
+book = via book-parts toBook fromBook SayableBook bookText same-book

@@ -1,8 +1,8 @@
 -- One or more items, as in `Many`. Assumes nothing.
 use Prim.Native.Nat.{ℕ, _≤_}
 use native.Mathlib.Omega.{arith}
-use mathlib.Core.List.{List, [], _∷_}
-use mathlib.Core.Path.{_≡_, refl}
+use mathlib.Core.List.{List, [], _∷_, _++_}
+use mathlib.Core.Path.{_≡_, refl, ap}
 use lib.ListN.{length}
 use Rattle.lists.specs.All.{All}
 use Rattle.lists.specs.Joined.{joined}
@@ -41,3 +41,8 @@ module _ {A : Type 0} (x : ℕ) (p : Form A) (heads : Headed x p) (again : p .Ma
 
   abbrev pub some-of : Form (List A)
   some-of = via first-and-more listed split OneOrMore (joined (p .text)) same-items
+
+  -- the first item begins the text
+  pub some-headed : Headed x some-of
+  some-headed [] v = absurd (omega (arith, v .0))
+  some-headed (a ∷ xs) v = let h = heads a (v .1 .0) in (h .0 ++ joined (p .text) xs, ap (λ (s : List ℕ). s ++ joined (p .text) xs) (h .1))
