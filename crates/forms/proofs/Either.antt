@@ -114,8 +114,7 @@ module _ {A B : Type 0} (x : ℕ) (p : Form A) (q : Form B) where
         go true i e′ =
             let m = after-stopped 1 (λ a. inl a) (p .parse t) e′ in
             let P = p .viable t (m .0) (m .1) in
-            let z : n ≡ suc (m .0) = omega (arith, m .2) in
-            (
+            let z : n ≡ suc (m .0) = omega (arith, m .2) in (
               omega (arith, P .0),
               record {
                 value = inl (P .1 .value);

@@ -1,8 +1,10 @@
 -- A form of text: the texts of its values, a parser for them, and the laws between the two. Assumes nothing.
 use Prim.Native.Nat.{ℕ, zero, suc, _+_, _≤_, _<_}
 use native.Mathlib.Omega.{arith}
+use mathlib.Core.Bool.{Bool, false}
 use mathlib.Core.List.{List, [], _∷_, _++_, append-assoc}
 use mathlib.Core.Path.{_≡_, refl, sym, ap, ap₂, _∙_, subst}
+use lib.Dec.{eqb}
 use lib.ListN.{length, take, length-append}
 use lib.Seq.{take-append-add}
 use Rattle.forms.specs.Shape.{Begins}
@@ -12,6 +14,10 @@ use Rattle.forms.proofs.Parse.{Parse, parsed, stopped}
 abbrev pub Next : (ℕ → Type 0) → List ℕ → Type 0
 Next May [] = Unit {0}
 Next May (b ∷ r) = May b
+
+abbrev pub startsWith : ℕ → List ℕ → Bool
+startsWith x [] = false
+startsWith x (b ∷ r) = eqb b x
 
 pub record Form (A : Type 0) : Type 1 where
   pub Valid : A → Type 0

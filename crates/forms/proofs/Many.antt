@@ -85,7 +85,7 @@ module _ {A : Type 0} (x : ℕ) (p : Form A) where
         let n = ap length q in
         ap (many-within (suc k)) q
         ∙ past-item k a (text xs ++ r) (parsed xs r) (v .0) (p .complete a (text xs ++ r) (v .0) (first-may xs r (v .1) m h)) (omega arith)
-          (complete xs r k (v .1) m h (omega (arith, longer a (v .0) (text xs ++ r))))
+        (complete xs r k (v .1) m h (omega (arith, longer a (v .0) (text xs ++ r))))
 
     -- what parsing a text that has a byte left can be: an item and the others, or nothing
     data Case (b : ℕ) (t : List ℕ) : Type 0 where
@@ -99,6 +99,7 @@ module _ {A : Type 0} (x : ℕ) (p : Form A) where
         found : b ≡ x → (y : Parse A) → p .parse (b ∷ t) ≡ y → Case b t
         found q (parsed a r) i = let P = p .sound (b ∷ t) a r i in item a r q i (P .0) (P .1)
         found q (stopped n) i = broken n q i
+
         go : (w : Bool) → eqb b x ≡ w → Case b t
         go true i = found (eqb-true b x i) (p .parse (b ∷ t)) refl
         go false i = nothing (eqb-false b x i)
@@ -143,6 +144,7 @@ module _ {A : Type 0} (x : ℕ) (p : Form A) where
         same : (m : ℕ) (s : List ℕ) → take 1 s ≡ b ∷ [] → (b ≡ x → ⊥) → many-within m s ≡ parsed [] s
         same m [] q n = absurd (omega (arith, ap length q))
         same m (c ∷ s) q n = let z : c ≡ b = cc in no-item m c s (λ i. n (sym z ∙ i))
+
         go : ((m : ℕ) (t : List ℕ) (xs : List A) (r s : List ℕ) → length t ≤ k → length (text xs ++ s) ≤ m → many-within k t ≡ parsed xs r → take 1 s ≡ take 1 r → many-within m (text xs ++ s) ≡ parsed xs s)
             → Case b t → (m : ℕ) (xs : List A) → length (text xs ++ s) ≤ m → many-within (suc k) (b ∷ t) ≡ parsed xs r → many-within m (text xs ++ s) ≡ parsed xs s
         go ih (nothing n) m xs l e =
@@ -179,17 +181,16 @@ module _ {A : Type 0} (x : ℕ) (p : Form A) where
         go ih (nothing q) = absurd (not-both (sym (no-item (suc k) b t q) ∙ e))
         go ih (item a u q i v w) =
             let m = after-stopped (length (p .text a)) (λ z. a ∷ z) (many-within k u) (sym (with-item k b t (parsed a u) q i) ∙ e) in
-            let Q = ih u (m .0) (omega (arith, longer a v u, ap length w)) (m .1) in
-            (
+            let Q = ih u (m .0) (omega (arith, longer a v u, ap length w)) (m .1) in (
               omega (arith, m .2, Q .0, length-past (b ∷ t) (p .text a) u w),
               record {
                 value = a ∷ Q .1 .value;
                 sayable = (v, Q .1 .sayable);
                 more = Q .1 .more;
                 goes-on =
-                  ap (λ (z : List ℕ). p .text a ++ z) (Q .1 .goes-on)
-                  ∙ sym (append-assoc (p .text a) (take (m .0) u) (Q .1 .more))
-                  ∙ ap (λ (z : List ℕ). z ++ Q .1 .more) (sym (begins-past (b ∷ t) (p .text a) u w n (m .0) (m .2)));
+                    ap (λ (z : List ℕ). p .text a ++ z) (Q .1 .goes-on)
+                    ∙ sym (append-assoc (p .text a) (take (m .0) u) (Q .1 .more))
+                    ∙ ap (λ (z : List ℕ). z ++ Q .1 .more) (sym (begins-past (b ∷ t) (p .text a) u w n (m .0) (m .2)));
               },
             )
         go ih (broken m q i) =
@@ -217,7 +218,7 @@ module _ {A : Type 0} (x : ℕ) (p : Form A) where
             let n2 = longer a v rest in
             ap (many-within (suc m)) c
             ∙ past-item m a rest (stopped (o .0)) v (p .ahead (b ∷ t) a u rest i (first-kept u s (o .0) more)) (omega arith)
-              (ih u (o .0) s (omega (arith, longer a v u, ap length w)) (omega arith) (o .1) more)
+            (ih u (o .0) s (omega (arith, longer a v u, ap length w)) (omega arith) (o .1) more)
             ∙ ap (λ (z : ℕ). stopped z) (sym (o .2))
         go ih (broken o q i) =
             let z = same-place (sym (with-item k b t (stopped o) q i) ∙ e) in

@@ -22,6 +22,10 @@ isDigit b = leb 48 b && leb b 57
 abbrev pub isFirst : ℕ → ℕ → Bool
 isFirst least b = leb (48 + least) b && leb b 57
 
+abbrev pub firstOf : ℕ → List ℕ → Bool
+firstOf least [] = false
+firstOf least (b ∷ t) = isFirst least b
+
 -- after the digits of v the digit b may follow
 abbrev pub goesOn : ℕ → ℕ → Bool
 goesOn v b = ltb 0 v && (ltb v 1000000000000 && isDigit b)
@@ -43,13 +47,13 @@ abbrev pub NoDigit : ℕ → Type 0
 NoDigit b = 48 ≤ b → b ≤ 57 → ⊥
 
 -- what the tests tell
-record Goes (v b : ℕ) : Type 0 where
+pub record Goes (v b : ℕ) : Type 0 where
   pub some : 0 < v
   pub few : v < 1000000000000
   pub low : 48 ≤ b
   pub high : b ≤ 57
 
-goes : (v b : ℕ) → goesOn v b ≡ true → Goes v b
+pub goes : (v b : ℕ) → goesOn v b ≡ true → Goes v b
 goes v b e =
     let tail = both-right (ltb 0 v) (ltb v 1000000000000 && isDigit b) e in
     let d = both-right (ltb v 1000000000000) (isDigit b) tail in
@@ -71,10 +75,10 @@ none-after v b n = go (goesOn v b) refl
     go false q = q
 
 module _ (least : ℕ) (small : least ≤ 1) where
-  first-low : (b : ℕ) → isFirst least b ≡ true → 48 + least ≤ b
+  pub first-low : (b : ℕ) → isFirst least b ≡ true → 48 + least ≤ b
   first-low b e = leb-true (48 + least) b (both-left (leb (48 + least) b) (leb b 57) e)
 
-  first-high : (b : ℕ) → isFirst least b ≡ true → b ≤ 57
+  pub first-high : (b : ℕ) → isFirst least b ≡ true → b ≤ 57
   first-high b e = leb-true b 57 (both-right (leb (48 + least) b) (leb b 57) e)
 
   few : (n : ℕ) → n < 10 → Number least n → (s : List ℕ) → number-parse least (digits n ++ s) ≡ further n s

@@ -56,8 +56,8 @@ module _ {A B : Type 0} (p : Form A) (q : Form B) where
           let Q = q .sound u b r (l .1) .1 in
           let first : take 1 (q .text b ++ s) ≡ take 1 u = first-joined (q .text b) r s h ∙ ap (take 1) (sym Q) in
           let whole : then-parse (p .parse (text (a, b) ++ s)) ≡ parsed (a, b) s =
-              ap (λ (z : List ℕ). then-parse (p .parse z)) (append-assoc (p .text a) (q .text b) s)
-              ∙ past-first a (q .text b ++ s) (parsed b s) (p .ahead t a u (q .text b ++ s) i first) (q .ahead u b r s (l .1) h) in
+          ap (λ (z : List ℕ). then-parse (p .parse z)) (append-assoc (p .text a) (q .text b) s)
+          ∙ past-first a (q .text b ++ s) (parsed b s) (p .ahead t a u (q .text b ++ s) i first) (q .ahead u b r s (l .1) h) in
           subst (λ (z : A × B). then-parse (p .parse (text z ++ s)) ≡ parsed z s) (l .2) whole
       go (stopped n) i f = absurd (not-both (sym f))
 
@@ -68,22 +68,20 @@ module _ {A B : Type 0} (p : Form A) (q : Form B) where
       go (parsed a u) i f =
           let m = after-stopped (length (p .text a)) (λ b. (a, b)) (q .parse u) f in
           let P = p .sound t a u i in
-          let Q = q .viable u (m .0) (m .1) in
-          (
+          let Q = q .viable u (m .0) (m .1) in (
             omega (arith, m .2, Q .0, length-past t (p .text a) u (P .1)),
             record {
               value = (a, Q .1 .value);
               sayable = (P .0, Q .1 .sayable);
               more = Q .1 .more;
               goes-on =
-                ap (λ (z : List ℕ). p .text a ++ z) (Q .1 .goes-on)
-                ∙ sym (append-assoc (p .text a) (take (m .0) u) (Q .1 .more))
-                ∙ ap (λ (z : List ℕ). z ++ Q .1 .more) (sym (begins-past t (p .text a) u (P .1) n (m .0) (m .2)));
+                  ap (λ (z : List ℕ). p .text a ++ z) (Q .1 .goes-on)
+                  ∙ sym (append-assoc (p .text a) (take (m .0) u) (Q .1 .more))
+                  ∙ ap (λ (z : List ℕ). z ++ Q .1 .more) (sym (begins-past t (p .text a) u (P .1) n (m .0) (m .2)));
             },
           )
       go (stopped m) i f =
-          let P = p .viable t n (i ∙ ap (λ (k : ℕ). stopped k) (sym (same-place f))) in
-          (
+          let P = p .viable t n (i ∙ ap (λ (k : ℕ). stopped k) (sym (same-place f))) in (
             P .0,
             record {
               value = (P .1 .value, q .some);

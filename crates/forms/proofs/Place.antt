@@ -1,13 +1,16 @@
 -- Forms at places of a text, as code parses them: from a place, or not at all where parsing has stopped before. Assumes nothing.
 use Prim.Native.Nat.{ℕ, zero, suc, _+_, _-_, _≤_, _<_}
 use native.Mathlib.Omega.{arith}
-use mathlib.Core.Bool.{Bool, true, false}
+use mathlib.Core.Bool.{Bool, true, false, true≢false}
 use mathlib.Core.List.{List, [], _∷_, _++_}
+use mathlib.Core.Logic.{_⊎_, inl, inr}
 use mathlib.Core.Path.{_≡_, refl, sym, ap, _∙_, subst}
 use lib.ListN.{length, drop, length-drop, length-append}
+use lib.Seq.{drop-drop}
 use Rattle.forms.proofs.Parse.{Parse, parsed, stopped, after}
-use Rattle.forms.proofs.Form.{Form}
+use Rattle.forms.proofs.Form.{Form, startsWith}
 use Rattle.forms.proofs.Pair.{pair, then-parse, Follows}
+use Rattle.forms.proofs.Either.{either, either-parse, Apart}
 use Rattle.forms.proofs.Via.{via, Same}
 
 module _ {A : Type 0} (p : Form A) (t : List ℕ) where
@@ -45,6 +48,14 @@ module _ {A : Type 0} (p : Form A) (t : List ℕ) where
   gives-within i e a false g = g .to
   gives-within i e a true g = g .to
 
+  -- parsing that had stopped stays where it is; else it does what it does
+  pub reads-still : (i : ℕ) (before : Bool) (a : A) → before ≡ true → Reads i before a i before
+  reads-still i false a e = absurd (true≢false (sym e))
+  reads-still i true a e = (refl, refl)
+
+  pub reads-going : (i : ℕ) (before : Bool) (a : A) (e : ℕ) (stop : Bool) → before ≡ false → Gives i a e stop → Reads i before a e stop
+  reads-going i before a e stop q g = subst (λ (b : Bool). Reads i b a e stop) (sym q) g
+
   -- a place stays in the text
   pub reads-within : (i : ℕ) (before : Bool) (a : A) (e : ℕ) (stop : Bool) → i ≤ length t → Reads i before a e stop → e ≤ length t
   reads-within i false a e stop h g = gives-within i e a stop g
@@ -53,7 +64,7 @@ module _ {A : Type 0} (p : Form A) (t : List ℕ) where
   -- where it goes on, it had gone on before
   pub reads-found : (i : ℕ) (before : Bool) (a : A) (e : ℕ) (stop : Bool) → stop ≡ false → Reads i before a e stop → (before ≡ false) × Found i a e
   reads-found i false a e stop q g = (refl, subst (Gives i a e) q g)
-  reads-found i true a e stop q g = absurd (mathlib.Core.Bool.true≢false (sym (g .1) ∙ q))
+  reads-found i true a e stop q g = absurd (true≢false (sym (g .1) ∙ q))
 
 -- one after the other
 module _ {A B : Type 0} (p : Form A) (q : Form B) (follows : Follows p q) (t : List ℕ) where
@@ -81,7 +92,7 @@ module _ {A B : Type 0} (p : Form A) (q : Form B) (follows : Follows p q) (t : L
   reads-both i true a e mid b g stop x y = after-stop mid (x .1) y
     where
       after-stop : (m : Bool) → m ≡ true → Reads q t e m b g stop → (g ≡ i) × (stop ≡ true)
-      after-stop false k y = absurd (mathlib.Core.Bool.true≢false (sym k))
+      after-stop false k y = absurd (true≢false (sym k))
       after-stop true k y = (y .0 ∙ x .0, y .1)
   reads-both i false a e false b g false x y = found-both x y
   reads-both i false a e false b g true x y = stops-second x y
@@ -102,3 +113,34 @@ module _ {A B : Type 0} (p : Form A) (f : A → B) (g : B → A) (Valid : B → 
   pub reads-via : (i : ℕ) (before : Bool) (a : A) (e : ℕ) (stop : Bool) → Reads p t i before a e stop → Reads Q t i before (f a) e stop
   reads-via i true a e stop x = x
   reads-via i false a e stop x = gives-via i a e stop x
+
+-- one of two, by the next byte
+module _ {A B : Type 0} (x : ℕ) (p : Form A) (q : Form B) (apart : Apart x q) (t : List ℕ) (i : ℕ) where
+  by-left : (s : List ℕ) → startsWith x s ≡ true → either-parse x p q s ≡ after 1 (λ a. inl a) (p .parse (drop 1 s))
+  by-left [] h = absurd (true≢false (sym h))
+  by-left (b ∷ s) h = rw h
+
+  by-right : (s : List ℕ) → startsWith x s ≡ false → either-parse x p q s ≡ after 0 (λ b. inr b) (q .parse s)
+  by-right [] h = refl
+  by-right (b ∷ s) h = rw h
+
+  pub gives-left : (a : A) (e : ℕ) (stop : Bool) → startsWith x (drop i t) ≡ true → Gives p t (i + 1) a e stop → Gives (either x p q apart) t i (inl a) e stop
+  gives-left a e stop h g = go stop g
+    where
+      starts : either-parse x p q (drop i t) ≡ after 1 (λ a. inl a) (p .parse (drop (i + 1) t))
+      starts = by-left (drop i t) h ∙ ap (λ (s : List ℕ). after 1 (λ a. inl a) (p .parse s)) (drop-drop 1 i t)
+
+      go : (stop : Bool) → Gives p t (i + 1) a e stop → Gives (either x p q apart) t i (inl a) e stop
+      go false g = record { finds = starts ∙ ap (after 1 (λ a. inl a)) (g .finds); from = omega (arith, g .from); to = g .to }
+      go true g =
+          let z : 1 + (e - (i + 1)) ≡ e - i = omega (arith, g .from) in
+          record { finds = starts ∙ ap (after 1 (λ a. inl a)) (g .finds) ∙ ap (λ (n : ℕ). stopped n) z; from = omega (arith, g .from); to = g .to }
+
+  pub gives-right : (b : B) (e : ℕ) (stop : Bool) → startsWith x (drop i t) ≡ false → Gives q t i b e stop → Gives (either x p q apart) t i (inr b) e stop
+  gives-right b e stop h g = go stop g
+    where
+      go : (stop : Bool) → Gives q t i b e stop → Gives (either x p q apart) t i (inr b) e stop
+      go false g = record { finds = by-right (drop i t) h ∙ ap (after 0 (λ b. inr b)) (g .finds); from = g .from; to = g .to }
+      go true g =
+          let z : 0 + (e - i) ≡ e - i = omega arith in
+          record { finds = by-right (drop i t) h ∙ ap (after 0 (λ b. inr b)) (g .finds) ∙ ap (λ (n : ℕ). stopped n) z; from = g .from; to = g .to }

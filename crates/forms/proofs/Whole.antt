@@ -30,9 +30,9 @@ module _ {A : Type 0} (p : Form A) where
     sayable = b .sayable;
     more = drop m (take n t) ++ b .more;
     goes-on =
-      b .goes-on
-      ∙ ap (λ (s : List ℕ). s ++ b .more) (sym (take-append-drop m (take n t)) ∙ ap (λ (s : List ℕ). s ++ drop m (take n t)) (take-take m n t h))
-      ∙ append-assoc (take m t) (drop m (take n t)) (b .more);
+        b .goes-on
+        ∙ ap (λ (s : List ℕ). s ++ b .more) (sym (take-append-drop m (take n t)) ∙ ap (λ (s : List ℕ). s ++ drop m (take n t)) (take-take m n t h))
+        ∙ append-assoc (take m t) (drop m (take n t)) (b .more);
   }
 
   -- to be the longest it is enough that one byte more is too many

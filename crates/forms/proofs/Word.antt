@@ -44,13 +44,13 @@ word-viable (c ∷ w) (b ∷ t) n e = go (word-viable w t) (eqb b c) refl e
   where
     Goal : Type 0
     Goal = (n ≤ suc (length t)) × ((more : List ℕ) × (c ∷ w ≡ take n (b ∷ t) ++ more))
+
     go : ((m : ℕ) → word-parse w t ≡ stopped m → (m ≤ length t) × ((more : List ℕ) × (w ≡ take m t ++ more))) → (x : Bool) → eqb b c ≡ x
         → cond x (on (word-parse w t)) (stopped 0) ≡ stopped n → Goal
     go ih true q i =
         let m = after-stopped 1 (λ x. x) (word-parse w t) i in
         let l = ih (m .0) (m .1) in
-        let z : n ≡ suc (m .0) = omega (arith, m .2) in
-        (
+        let z : n ≡ suc (m .0) = omega (arith, m .2) in (
           omega (arith, l .0),
           (l .1 .0, ap₂ (λ (x : ℕ) (y : List ℕ). x ∷ y) (sym (eqb-true b c q)) (l .1 .1) ∙ ap (λ (k : ℕ). take k (b ∷ t) ++ l .1 .0) (sym z)),
         )

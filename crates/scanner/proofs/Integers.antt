@@ -1,0 +1,49 @@
+-- A signed number at a place of a text. Assumes nothing.
+use Prim.Native.Nat.{ℕ, _+_, _<_}
+use native.Mathlib.Omega.{arith}
+use mathlib.Core.Bool.{Bool, true, false, not, _&&_, true≢false}
+use mathlib.Core.List.{List, []}
+use mathlib.Core.Logic.{inl, inr}
+use mathlib.Core.Path.{_≡_, refl, sym, _∙_, subst}
+use borrow.Author.Tests.{ltb-true, ltb-false}
+use lib.Dec.{ltb}
+use lib.IntN.{ℤ, pos, negℤ}
+use lib.ListN.{length, drop}
+use Rattle.forms.specs.Digits.{signedDigits}
+use Rattle.forms.proofs.Form.{startsWith}
+use Rattle.forms.proofs.Number.{number}
+use Rattle.forms.proofs.Signed.{signed, from-0, from-1, no-minus, minus-or-none, integer, sides, Thirteen, same-integers}
+use Rattle.forms.proofs.Place.{Gives, Reads, gives-left, gives-right, reads-via}
+use Rattle.scanner.proofs.Numbers.{starts-past}
+
+-- the code's test: parsing goes on, and with this byte
+going : (before b : Bool) → not before && b ≡ true → (before ≡ false) × (b ≡ true)
+going true b e = absurd (true≢false (sym e))
+going false b e = (refl, e)
+
+module _ (t : List ℕ) (i : ℕ) (before : Bool) where
+  pub begins-going : (x : ℕ) → not before && startsWith x (drop i t) ≡ true → (before ≡ false) × (startsWith x (drop i t) ≡ true)
+  begins-going x e = going before (startsWith x (drop i t)) e
+
+  -- there is such a byte
+  pub begins-within : (x : ℕ) → not before && startsWith x (drop i t) ≡ true → i < length t
+  begins-within x e = side (ltb i (length t)) refl
+    where
+      side : (b : Bool) → ltb i (length t) ≡ b → i < length t
+      side true q = ltb-true i (length t) q
+      side false q = absurd (true≢false (sym (begins-going x e .1) ∙ starts-past t i x (ltb-false i (length t) q)))
+
+  pub signed-minus : (n e : ℕ) (stop : Bool) → not before && startsWith 45 (drop i t) ≡ true → Reads (number 1 from-1) t (i + 1) false n e stop
+      → Reads signed t i before (negℤ (pos n)) e stop
+  signed-minus n e stop h g =
+      let b = begins-going 45 h in
+      reads-via minus-or-none integer sides Thirteen signedDigits same-integers t i before (inl n) e stop
+      (subst (λ (k : Bool). Reads minus-or-none t i k (inl n) e stop) (sym (b .0)) (gives-left 45 (number 1 from-1) (number 0 from-0) no-minus t i n e stop (b .1) g))
+
+  pub signed-plain : (n e : ℕ) (stop : Bool) → not before && startsWith 45 (drop i t) ≡ false → Reads (number 0 from-0) t i before n e stop
+      → Reads signed t i before (pos n) e stop
+  signed-plain n e stop h g = reads-via minus-or-none integer sides Thirteen signedDigits same-integers t i before (inr n) e stop (go before h g)
+    where
+      go : (k : Bool) → not k && startsWith 45 (drop i t) ≡ false → Reads (number 0 from-0) t i k n e stop → Reads minus-or-none t i k (inr n) e stop
+      go true h g = g
+      go false h g = gives-right 45 (number 1 from-1) (number 0 from-0) no-minus t i n e stop h g

@@ -1,0 +1,4 @@
+mod Words
+mod Numbers
+mod Negatives
+mod Integers

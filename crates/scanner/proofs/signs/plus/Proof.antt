@@ -1,0 +1,17 @@
+use Rattle.scanner.proofs.Negatives.{plus-is}
+use borrow.Author.Needs.{needs}
+use Rattle.scanner.proofs.signs.plus.Statement.{statement}
+use Rattle.scanner.proofs.signs.plus.Tie as tie
+use Rattle.scanner.proofs.signs.plus.Reads as reads
+use Rattle.scanner.proofs.signs.plus.Lts as lts
+
+-- src/signs.rt:10:5
+cast-result : tie.Need-cast-result
+cast-result c = search needs
+
+-- src/signs.rt:6:1
+returns : tie.Need-returns
+returns c = plus-is (c .args .n) (c .pre)
+
+pub plus-spec : {M : Type 1} → statement M
+plus-spec = tie.close (tie.spec cast-result returns)
