@@ -11,3 +11,4 @@ pub mod Some
 pub mod Signed
 pub mod Whole
 pub mod Place
+pub mod Repeat

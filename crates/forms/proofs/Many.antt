@@ -54,7 +54,7 @@ module _ {A : Type 0} (x : ℕ) (p : Form A) where
   an-item k b t e = rw (eq-eqb b x e)
 
   module _ (heads : Headed x p) where
-    longer : (a : A) → p .Valid a → (r : List ℕ) → length r < length (p .text a ++ r)
+    pub longer : (a : A) → p .Valid a → (r : List ℕ) → length r < length (p .text a ++ r)
     longer a v r = omega (arith, length-append (p .text a) r, ap length (heads a v .1))
 
     past-item : (k : ℕ) (a : A) (r : List ℕ) (y : Parse (List A)) → p .Valid a → p .parse (p .text a ++ r) ≡ parsed a r → length (p .text a ++ r) ≤ suc k → many-within k r ≡ y
@@ -104,8 +104,24 @@ module _ {A : Type 0} (x : ℕ) (p : Form A) where
         go true i = found (eqb-true b x i) (p .parse (b ∷ t)) refl
         go false i = nothing (eqb-false b x i)
 
-    with-item : (k b : ℕ) (t : List ℕ) (y : Parse A) → b ≡ x → p .parse (b ∷ t) ≡ y → many-within (suc k) (b ∷ t) ≡ then-more (λ r. many-within k r) y
+    pub with-item : (k b : ℕ) (t : List ℕ) (y : Parse A) → b ≡ x → p .parse (b ∷ t) ≡ y → many-within (suc k) (b ∷ t) ≡ then-more (λ r. many-within k r) y
     with-item k b t y q i = an-item k b t q ∙ ap (then-more (λ r. many-within k r)) i
+
+    -- any bound from the text's length on gives the same
+    pub enough : (j k : ℕ) (t : List ℕ) → length t ≤ j → length t ≤ k → many-within j t ≡ many-within k t
+    enough zero k [] h l = none-left zero ∙ sym (none-left k)
+    enough zero k (b ∷ t) h l = absurd (omega arith)
+    enough (suc j) k [] h l = none-left (suc j) ∙ sym (none-left k)
+    enough (suc j) zero (b ∷ t) h l = absurd (omega arith)
+    enough (suc j) (suc k) (b ∷ t) h l = go (enough j k) (case b t)
+      where
+        go : ((t : List ℕ) → length t ≤ j → length t ≤ k → many-within j t ≡ many-within k t) → Case b t → many-within (suc j) (b ∷ t) ≡ many-within (suc k) (b ∷ t)
+        go ih (nothing n) = no-item (suc j) b t n ∙ sym (no-item (suc k) b t n)
+        go ih (item a r q i v w) =
+            let shorter = longer a v r in
+            let same = ap length w in
+            with-item j b t (parsed a r) q i ∙ ap (after (length (p .text a)) (λ xs. a ∷ xs)) (ih r (omega arith) (omega arith)) ∙ sym (with-item k b t (parsed a r) q i)
+        go ih (broken n q i) = with-item j b t (stopped n) q i ∙ sym (with-item k b t (stopped n) q i)
 
     pub sound : (k : ℕ) (t : List ℕ) (xs : List A) (r : List ℕ) → many-within k t ≡ parsed xs r → Valid xs × (t ≡ text xs ++ r)
     unfolding many-within

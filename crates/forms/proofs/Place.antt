@@ -61,6 +61,11 @@ module _ {A : Type 0} (p : Form A) (t : List ℕ) where
   reads-within i false a e stop h g = gives-within i e a stop g
   reads-within i true a e stop h g = omega (arith, g .0)
 
+  -- and never goes back
+  pub reads-from : (i : ℕ) (a : A) (e : ℕ) (stop : Bool) → Gives i a e stop → i ≤ e
+  reads-from i a e false g = g .from
+  reads-from i a e true g = g .from
+
   -- where it goes on, it had gone on before
   pub reads-found : (i : ℕ) (before : Bool) (a : A) (e : ℕ) (stop : Bool) → stop ≡ false → Reads i before a e stop → (before ≡ false) × Found i a e
   reads-found i false a e stop q g = (refl, subst (Gives i a e) q g)

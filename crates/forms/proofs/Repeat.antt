@@ -1,0 +1,103 @@
+-- Items at places of a text, one after the other, as a loop parses them. Assumes nothing.
+use Prim.Native.Nat.{ℕ, zero, suc, _+_, _-_, _≤_, _<_}
+use native.Mathlib.Omega.{arith}
+use mathlib.Core.Bool.{Bool, true, false, not, _&&_, true≢false}
+use mathlib.Core.List.{List, [], _∷_, _++_, append-assoc, append-nil}
+use mathlib.Core.Path.{_≡_, refl, sym, ap, _∙_, subst}
+use borrow.Author.Tests.{eqb-true, eqb-false}
+use lib.ListN.{length, drop, length-drop, length-append}
+use Rattle.lists.specs.Joined.{joined}
+use Rattle.forms.proofs.Parse.{Parse, parsed, stopped, after}
+use Rattle.forms.proofs.Form.{Form, startsWith}
+use Rattle.forms.proofs.Many.{Headed, many, many-within, then-more, none-left, no-item, with-item, enough}
+use Rattle.forms.proofs.Some.{some-of, first-and-more, item-follows, listed, split, same-items, OneOrMore}
+use Rattle.forms.proofs.Place.{Found, Stops, Gives, Reads, wide, valid, reads-both, reads-via, reads-within, reads-from, reads-found, reads-still}
+
+module _ {A : Type 0} (x : ℕ) (p : Form A) (heads : Headed x p) (again : p .May x) (t : List ℕ) where
+  abbrev M : Form (List A)
+  M = many x p heads again
+
+  abbrev S : Form (List A)
+  S = some-of x p heads again
+
+  -- an item takes at least a byte
+  moves : {i e : ℕ} {a : A} → Found p t i a e → i < e
+  moves {a = a} f = omega (arith, wide p t f, ap length (heads a (valid p t f) .1))
+
+  -- where the next byte begins an item, the item is parsed and then the others
+  item-first : (i : ℕ) (y : Parse A) → startsWith x (drop i t) ≡ true → p .parse (drop i t) ≡ y
+      → (k : ℕ) × (length (drop i t) ≡ suc k) × (M .parse (drop i t) ≡ then-more x p (λ r. many-within x p k r) y)
+  item-first i y h e = go (drop i t) h e
+    where
+      go : (s : List ℕ) → startsWith x s ≡ true → p .parse s ≡ y → (k : ℕ) × (length s ≡ suc k) × (M .parse s ≡ then-more x p (λ r. many-within x p k r) y)
+      go [] h e = absurd (true≢false (sym h))
+      go (b ∷ s) h e = (length s, refl, with-item x p heads (length s) b s y (eqb-true b x h) e)
+
+  then-others : (i e : ℕ) (a : A) → startsWith x (drop i t) ≡ true → Found p t i a e → M .parse (drop i t) ≡ after (length (p .text a)) (λ xs. a ∷ xs) (M .parse (drop e t))
+  then-others i e a h f =
+      let g = item-first i (parsed a (drop e t)) h (f .finds) in
+      let shorter : length (drop e t) ≤ g .0 = omega (arith, g .1, length-drop i t, length-drop e t, moves f, f .to) in
+      g .2 ∙ ap (after (length (p .text a)) (λ xs. a ∷ xs)) (enough x p heads (g .0) (length (drop e t)) (drop e t) shorter (omega arith))
+
+  more-items : (i : ℕ) (a : A) (e : ℕ) (mid : Bool) (xs : List A) (g : ℕ) (stop : Bool) → startsWith x (drop i t) ≡ true → Gives p t i a e mid → Reads M t e mid xs g stop
+      → Gives M t i (a ∷ xs) g stop
+  more-items i a e false xs g false h f m = record { finds = then-others i e a h f ∙ ap (after (length (p .text a)) (λ ys. a ∷ ys)) (m .finds); from = omega (arith, f .from, m .from); to = m .to }
+  more-items i a e false xs g true h f m =
+      let z : length (p .text a) + (g - e) ≡ g - i = omega (arith, wide p t f, m .from) in
+      record {
+        finds = then-others i e a h f ∙ ap (after (length (p .text a)) (λ ys. a ∷ ys)) (m .finds) ∙ ap (λ (n : ℕ). stopped n) z;
+        from = omega (arith, f .from, m .from);
+        to = m .to;
+      }
+  more-items i a e true xs g stop h f m =
+      let y = item-first i (stopped (e - i)) h (f .finds) in
+      let s : Stops M t i e = record { finds = y .2; from = f .from; to = f .to } in
+      subst (λ (w : Bool). Gives M t i (a ∷ xs) g w) (sym (m .1)) (subst (λ (k : ℕ). Stops M t i k) (sym (m .0)) s)
+
+  -- where it does not, there is none
+  no-items : (i : ℕ) → i ≤ length t → startsWith x (drop i t) ≡ false → Found M t i [] i
+  no-items i l h = record { finds = go (drop i t) h; from = omega arith; to = l }
+    where
+      go : (s : List ℕ) → startsWith x s ≡ false → M .parse s ≡ parsed [] s
+      go [] h = none-left x p 0
+      go (b ∷ s) h = no-item x p (length (b ∷ s)) b s (eqb-false b x h)
+
+  -- A loop has parsed the items xs, of which the first was parsed from the place i, and now stands at e: what it parses from
+  -- there on belongs to the same list. Each item but one that was broken off has taken a byte.
+  pub record Run (i : ℕ) (before : Bool) (xs : List A) (e : ℕ) (stop : Bool) : Type 0 where
+    pub within : e ≤ length t
+    pub few : length xs ≤ e + 1
+    pub fewer : stop ≡ false → length xs ≤ e
+    pub goes-on : (ys : List A) (g : ℕ) (last : Bool) → Reads M t e stop ys g last → Reads S t i before (xs ++ ys) g last
+
+  pub run-first : (i : ℕ) (before : Bool) (a : A) (e : ℕ) (stop : Bool) → i ≤ length t → Reads p t i before a e stop → Run i before (a ∷ []) e stop
+  run-first i before a e stop l r = record {
+    within = reads-within p t i before a e stop l r;
+    few = omega arith;
+    fewer = λ q. let f = moves (reads-found p t i before a e stop q r .1) in omega arith;
+    goes-on = λ ys g last m. reads-via (first-and-more x p heads again) (listed x p heads again) (split x p heads again) (OneOrMore x p heads again) (joined (p .text)) (same-items x p heads again) t i before (a, ys) g last
+        (reads-both p M (item-follows x p heads again) t i before a e stop ys g last r m);
+  }
+
+  -- the code's test whether another item begins
+  module _ (i : ℕ) (before : Bool) (xs : List A) (e : ℕ) (stop : Bool) (run : Run i before xs e stop) where
+    pub run-next : (a : A) (g : ℕ) (last : Bool) → not stop && startsWith x (drop e t) ≡ true → Reads p t e stop a g last → Run i before (xs ++ a ∷ []) g last
+    run-next a g last h r = go stop refl h r
+      where
+        go : (w : Bool) → stop ≡ w → not w && startsWith x (drop e t) ≡ true → Reads p t e w a g last → Run i before (xs ++ a ∷ []) g last
+        go true q h r = absurd (true≢false (sym h))
+        go false q h r = record {
+          within = reads-within p t e false a g last (run .within) r;
+          few = omega (arith, length-append xs (a ∷ []), run .fewer q, reads-from p t e a g last r);
+          fewer = λ k. omega (arith, length-append xs (a ∷ []), run .fewer q, moves (reads-found p t e false a g last k r .1));
+          goes-on = λ ys f end m.
+              subst (λ (zs : List A). Reads S t i before zs f end) (sym (append-assoc xs (a ∷ []) ys))
+              (run .goes-on (a ∷ ys) f end (subst (λ (w : Bool). Reads M t e w (a ∷ ys) f end) (sym q) (more-items e a g last ys f end h r m)));
+        }
+
+    pub run-done : not stop && startsWith x (drop e t) ≡ false → Reads S t i before xs e stop
+    run-done h = subst (λ (zs : List A). Reads S t i before zs e stop) (append-nil xs) (run .goes-on [] e stop (go stop refl h))
+      where
+        go : (w : Bool) → stop ≡ w → not w && startsWith x (drop e t) ≡ false → Reads M t e stop [] e stop
+        go true q h = reads-still M t e stop [] q
+        go false q h = subst (λ (w : Bool). Reads M t e w [] e w) (sym q) (no-items e (run .within) h)
