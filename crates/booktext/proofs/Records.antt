@@ -1,0 +1,43 @@
+-- What a record holds of the entries of a text: the first n, then blanks; and the entries that it gives back. Assumes nothing.
+use Prim.Native.Nat.{ℕ, zero, suc, _+_, _-_, _≤_, _<_}
+use native.Mathlib.Omega.{arith}
+use mathlib.Core.List.{List, [], _∷_, _++_}
+use mathlib.Core.Path.{_≡_, refl, sym, ap, _∙_}
+use lib.ListN.{length, set, take, replicate, length-append, length-replicate, replicate-append-replicate}
+use lib.Seq.{take-all, take-at, take-take, take-append-le, take-append-add, take-append-seam, set-append-seam, append-snoc, length-take-le}
+use Rattle.booktext.specs.Record.{held}
+
+module _ {A : Type 0} where
+  take-replicate : (k m : ℕ) (blank : A) → take k (replicate (k + m) blank) ≡ replicate k blank
+  take-replicate k m blank = rw (← (replicate-append-replicate k m blank)) (take-at _ _ k (length-replicate k blank))
+
+  -- with k places left
+  held-room : (n k : ℕ) (blank : A) (xs : List A) → n ≡ length xs + k → held n blank xs ≡ xs ++ replicate k blank
+  held-room n k blank xs e =
+      let f : n ≡ k + length xs = omega arith in
+      ap (λ (m : ℕ). take m (xs ++ replicate n blank)) e ∙ take-append-add xs (replicate n blank) k ∙ ap (λ (m : ℕ). xs ++ take k (replicate m blank)) f ∙ ap (λ (r : List A). xs ++ r) (take-replicate k (length xs) blank)
+
+  pub length-held-is : (n : ℕ) (blank : A) (xs : List A) → length (held n blank xs) ≡ n
+  length-held-is n blank xs = length-take-le n (xs ++ replicate n blank) (simp (length-append, length-replicate) (omega arith))
+
+  -- one more entry: stored in the first blank, or nowhere where the record is full
+  pub held-next : (n : ℕ) (blank : A) (xs : List A) (x : A) → length xs < n → set (held n blank xs) (length xs) x ≡ held n blank (xs ++ x ∷ [])
+  held-next n blank xs x h =
+      let k = n - suc (length xs) in
+      let here : n ≡ length xs + suc k = omega arith in
+      let next : n ≡ length (xs ++ x ∷ []) + k = rw length-append (omega arith) in
+      ap (λ (l : List A). set l (length xs) x) (held-room n (suc k) blank xs here)
+      ∙ set-append-seam xs blank (replicate k blank) x
+      ∙ sym (append-snoc xs x (replicate k blank))
+      ∙ sym (held-room n k blank (xs ++ x ∷ []) next)
+
+  pub held-full : (n : ℕ) (blank : A) (xs : List A) (x : A) → n ≤ length xs → held n blank (xs ++ x ∷ []) ≡ held n blank xs
+  held-full n blank xs x h =
+      let more : n ≤ length (xs ++ x ∷ []) = rw length-append (omega arith) in
+      take-append-le n (xs ++ x ∷ []) (replicate n blank) more ∙ take-append-le n xs (x ∷ []) h ∙ sym (take-append-le n xs (replicate n blank) h)
+
+  pub held-none : (n : ℕ) (blank : A) → held n blank [] ≡ replicate n blank
+  held-none n blank = take-all n (replicate n blank) (omega (arith, length-replicate n blank))
+
+  pub take-of-held : (n : ℕ) (blank : A) (xs : List A) → length xs ≤ n → take (length xs) (held n blank xs) ≡ xs
+  take-of-held n blank xs h = take-take (length xs) n (xs ++ replicate n blank) h ∙ take-append-seam xs (replicate n blank)
