@@ -1,11 +1,21 @@
 -- What a record holds of the entries of a text: the first n, then blanks; and the entries that it gives back. Assumes nothing.
 use Prim.Native.Nat.{ℕ, zero, suc, _+_, _-_, _≤_, _<_}
 use native.Mathlib.Omega.{arith}
-use mathlib.Core.List.{List, [], _∷_, _++_}
-use mathlib.Core.Path.{_≡_, refl, sym, ap, _∙_}
-use lib.ListN.{length, set, take, replicate, length-append, length-replicate, replicate-append-replicate}
+use mathlib.Core.List.{List, [], _∷_, _++_, map}
+use mathlib.Core.Path.{_≡_, sym, ap, _∙_, subst}
+use lib.ListN.{length, set, take, replicate, length-append, length-map, length-replicate, replicate-append-replicate}
 use lib.Seq.{take-all, take-at, take-take, take-append-le, take-append-add, take-append-seam, set-append-seam, append-snoc, length-take-le}
-use Rattle.booktext.specs.Record.{held}
+use Rattle.lists.specs.All.{All}
+use Rattle.lists.proofs.All.{all-from, all-both, map-all, map-back}
+use Rattle.refusal.specs.declared.Verdict.the-variants.{Accepted}
+use Rattle.book.specs.declared.Segment.{Segment}
+use Rattle.book.specs.declared.Bid.{Bid}
+use Rattle.book.specs.Entries.{BidEntries, BookEntries, bidEntries, bookEntries}
+use Rattle.book.specs.Rules.{bookVerdict}
+use Rattle.book.proofs.Accepted.{AcceptedBid, book-accepted}
+use Rattle.booktext.specs.Sayable.{SayableBid, SayableBook}
+use Rattle.booktext.specs.Record.{held, emptySegment, emptyBid, bidRecord, bookRecord}
+use Rattle.booktext.proofs.Bids.{all-accepted}
 
 module _ {A : Type 0} where
   take-replicate : (k m : ℕ) (blank : A) → take k (replicate (k + m) blank) ≡ replicate k blank
@@ -41,3 +51,39 @@ module _ {A : Type 0} where
 
   pub take-of-held : (n : ℕ) (blank : A) (xs : List A) → length xs ≤ n → take (length xs) (held n blank xs) ≡ xs
   take-of-held n blank xs h = take-take (length xs) n (xs ++ replicate n blank) h ∙ take-append-seam xs (replicate n blank)
+
+  pub take-count : (n count : ℕ) (blank : A) (xs : List A) → count ≡ length xs → count ≤ n → take count (held n blank xs) ≡ xs
+  take-count n count blank xs e h = rw e (take-of-held n blank xs (omega arith))
+
+-- a bid for which a record has room
+abbrev pub FewSegments : BidEntries → Type 0
+FewSegments b = b .count ≤ 6
+
+bid-back : (b : BidEntries) → SayableBid b × FewSegments b → bidEntries (bidRecord b) ≡ b
+unfolding bidRecord
+bid-back b h =
+    ap (λ (ss : List Segment). record { bidder = b .bidder; count = b .count; segments = ss }) (take-count 6 (b .count) emptySegment (b .segments) (h .0 .count) (h .1))
+
+module _ (b : BookEntries) (sayable : SayableBook b) where
+  -- the bids within the record's count
+  bids-of-record : b .count ≤ 8 → bookEntries (bookRecord b) .bids ≡ map bidEntries (map bidRecord (b .bids))
+  unfolding bookRecord
+  bids-of-record few =
+      let records = map bidRecord (b .bids) in
+      ap (map bidEntries) (take-count 8 (b .count) emptyBid records (rw length-map (sayable .count)) few)
+
+  -- a book for which a record has room
+  pub entries-back : b .count ≤ 8 → All FewSegments (b .bids) → bookEntries (bookRecord b) ≡ b
+  unfolding bookRecord
+  entries-back few segments =
+      let each = all-from _ _ bid-back (b .bids) (all-both SayableBid FewSegments (b .bids) (sayable .bids) segments) in
+      ap (λ (bs : List BidEntries). record { demand = b .demand; count = b .count; bids = bs }) (bids-of-record few ∙ map-back bidRecord bidEntries (b .bids) each)
+
+  -- the counts stay as they are, so that an accepted record had room
+  pub entries-of-record : bookVerdict (bookEntries (bookRecord b)) ≡ Accepted → bookEntries (bookRecord b) ≡ b
+  unfolding bookRecord bidRecord
+  entries-of-record accepted =
+      let few = book-accepted (bookEntries (bookRecord b)) accepted .count-high in
+      let bids = subst (All AcceptedBid) (bids-of-record few) (all-accepted (bookEntries (bookRecord b)) accepted) in
+      let each = map-all bidRecord _ (b .bids) (map-all bidEntries AcceptedBid (map bidRecord (b .bids)) bids) in
+      entries-back few (all-from _ FewSegments (λ x a. a .count-high) (b .bids) each)
