@@ -1,8 +1,7 @@
 -- An accepted record has a text, and the record that this text says is the same book. Assumes nothing.
-use Prim.Native.Nat.{ℕ, _≤_}
+use Prim.Native.Nat.{_≤_}
 use native.Mathlib.Omega.{arith}
 use mathlib.Core.Bool.{true}
-use mathlib.Core.List.{List, map}
 use mathlib.Core.Path.{_≡_, sym}
 use lib.ListN.{length, take, length-map}
 use lib.Seq.{length-take-le}
@@ -46,22 +45,22 @@ sayable-bid x h =
     }
 
 module _ (b : Book) (held : Held b) (accepted : bookVerdict (bookEntries b) ≡ Accepted) where
-  abbrev bs : List Bid
-  bs = take (b .count) (b .bids)
-
   pub sayable : SayableBook (bookEntries b)
   sayable =
       let a = book-accepted (bookEntries b) accepted in
       let few : b .count ≤ length (b .bids) = omega (arith, held .bids) in
-      let each = map-all bidEntries AcceptedBid bs (all-accepted (bookEntries b) accepted) in
+      let bs = take (b .count) (b .bids) in
+      let lines = map-all bidEntries AcceptedBid bs (all-accepted (bookEntries b) accepted) in
+      let arrays = all-take SixHeld (b .count) (b .bids) (held .segments) in
       record {
         demand = omega arith;
         count = rw length-map (sym (length-take-le (b .count) (b .bids) few));
         some = a .count-low;
-        bids = all-map bidEntries SayableBid bs (all-from _ _ sayable-bid bs (all-both _ SixHeld bs each (all-take SixHeld (b .count) (b .bids) (held .segments))));
+        bids = all-map bidEntries SayableBid bs (all-from _ _ sayable-bid bs (all-both _ SixHeld bs lines arrays));
       }
 
   pub same-record : SameBook (bookRecord (bookEntries b)) b
   same-record =
-      let segments = all-from AcceptedBid FewSegments (λ x a. a .count-high) (bookEntries b .bids) (all-accepted (bookEntries b) accepted) in
-      entries-back (bookEntries b) sayable (book-accepted (bookEntries b) accepted .count-high) segments
+      let e = bookEntries b in
+      let few = book-accepted e accepted .count-high in
+      entries-back e sayable few (all-from AcceptedBid FewSegments (λ x a. a .count-high) (e .bids) (all-accepted e accepted))

@@ -1,5 +1,5 @@
 -- What a record holds of the entries of a text: the first n, then blanks; and the entries that it gives back. Assumes nothing.
-use Prim.Native.Nat.{ℕ, zero, suc, _+_, _-_, _≤_, _<_}
+use Prim.Native.Nat.{ℕ, suc, _+_, _-_, _≤_, _<_}
 use native.Mathlib.Omega.{arith}
 use mathlib.Core.List.{List, [], _∷_, _++_, map}
 use mathlib.Core.Path.{_≡_, sym, ap, _∙_, subst}
@@ -9,7 +9,6 @@ use Rattle.lists.specs.All.{All}
 use Rattle.lists.proofs.All.{all-from, all-both, map-all, map-back}
 use Rattle.refusal.specs.declared.Verdict.the-variants.{Accepted}
 use Rattle.book.specs.declared.Segment.{Segment}
-use Rattle.book.specs.declared.Bid.{Bid}
 use Rattle.book.specs.Entries.{BidEntries, BookEntries, bidEntries, bookEntries}
 use Rattle.book.specs.Rules.{bookVerdict}
 use Rattle.book.proofs.Accepted.{AcceptedBid, book-accepted}
@@ -25,8 +24,11 @@ module _ {A : Type 0} where
   held-room : (n k : ℕ) (blank : A) (xs : List A) → n ≡ length xs + k → held n blank xs ≡ xs ++ replicate k blank
   held-room n k blank xs e =
       let f : n ≡ k + length xs = omega arith in
-      ap (λ (m : ℕ). take m (xs ++ replicate n blank)) e ∙ take-append-add xs (replicate n blank) k ∙ ap (λ (m : ℕ). xs ++ take k (replicate m blank)) f ∙ ap (λ (r : List A). xs ++ r) (take-replicate k (length xs) blank)
+      ap (λ (m : ℕ). take m (xs ++ replicate n blank)) e
+      ∙ take-append-add xs (replicate n blank) k
+      ∙ ap (λ (r : List A). xs ++ r) (rw f (take-replicate k (length xs) blank))
 
+  -- always n
   pub length-held-is : (n : ℕ) (blank : A) (xs : List A) → length (held n blank xs) ≡ n
   length-held-is n blank xs = length-take-le n (xs ++ replicate n blank) (simp (length-append, length-replicate) (omega arith))
 
@@ -49,10 +51,11 @@ module _ {A : Type 0} where
   pub held-none : (n : ℕ) (blank : A) → held n blank [] ≡ replicate n blank
   held-none n blank = take-all n (replicate n blank) (omega (arith, length-replicate n blank))
 
+  -- within the count, the entries themselves
   pub take-of-held : (n : ℕ) (blank : A) (xs : List A) → length xs ≤ n → take (length xs) (held n blank xs) ≡ xs
   take-of-held n blank xs h = take-take (length xs) n (xs ++ replicate n blank) h ∙ take-append-seam xs (replicate n blank)
 
-  pub take-count : (n count : ℕ) (blank : A) (xs : List A) → count ≡ length xs → count ≤ n → take count (held n blank xs) ≡ xs
+  take-count : (n count : ℕ) (blank : A) (xs : List A) → count ≡ length xs → count ≤ n → take count (held n blank xs) ≡ xs
   take-count n count blank xs e h = rw e (take-of-held n blank xs (omega arith))
 
 -- a bid for which a record has room
@@ -62,7 +65,8 @@ FewSegments b = b .count ≤ 6
 bid-back : (b : BidEntries) → SayableBid b × FewSegments b → bidEntries (bidRecord b) ≡ b
 unfolding bidRecord
 bid-back b h =
-    ap (λ (ss : List Segment). record { bidder = b .bidder; count = b .count; segments = ss }) (take-count 6 (b .count) emptySegment (b .segments) (h .0 .count) (h .1))
+    let same = take-count 6 (b .count) emptySegment (b .segments) (h .0 .count) (h .1) in
+    ap (λ (ss : List Segment). record { bidder = b .bidder; count = b .count; segments = ss }) same
 
 module _ (b : BookEntries) (sayable : SayableBook b) where
   -- the bids within the record's count
@@ -77,13 +81,15 @@ module _ (b : BookEntries) (sayable : SayableBook b) where
   unfolding bookRecord
   entries-back few segments =
       let each = all-from _ _ bid-back (b .bids) (all-both SayableBid FewSegments (b .bids) (sayable .bids) segments) in
-      ap (λ (bs : List BidEntries). record { demand = b .demand; count = b .count; bids = bs }) (bids-of-record few ∙ map-back bidRecord bidEntries (b .bids) each)
+      let same = bids-of-record few ∙ map-back bidRecord bidEntries (b .bids) each in
+      ap (λ (bs : List BidEntries). record { demand = b .demand; count = b .count; bids = bs }) same
 
   -- the counts stay as they are, so that an accepted record had room
   pub entries-of-record : bookVerdict (bookEntries (bookRecord b)) ≡ Accepted → bookEntries (bookRecord b) ≡ b
   unfolding bookRecord bidRecord
   entries-of-record accepted =
-      let few = book-accepted (bookEntries (bookRecord b)) accepted .count-high in
-      let bids = subst (All AcceptedBid) (bids-of-record few) (all-accepted (bookEntries (bookRecord b)) accepted) in
+      let said = bookEntries (bookRecord b) in
+      let few = book-accepted said accepted .count-high in
+      let bids = subst (All AcceptedBid) (bids-of-record few) (all-accepted said accepted) in
       let each = map-all bidRecord _ (b .bids) (map-all bidEntries AcceptedBid (map bidRecord (b .bids)) bids) in
       entries-back few (all-from _ FewSegments (λ x a. a .count-high) (b .bids) each)
