@@ -1,1 +1,5 @@
 pub mod BookForm
+pub mod Bids
+pub mod Records
+pub mod Accepted
+pub mod Room

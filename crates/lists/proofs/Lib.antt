@@ -1,3 +1,5 @@
 pub mod Tests
 pub mod Slices
 pub mod Everywhere
+pub mod All
+pub mod Joined

@@ -1,0 +1,95 @@
+-- What a record holds of the entries of a text: the first n, then blanks; and the entries that it gives back. Assumes nothing.
+use Prim.Native.Nat.{ℕ, suc, _+_, _-_, _≤_, _<_}
+use native.Mathlib.Omega.{arith}
+use mathlib.Core.List.{List, [], _∷_, _++_, map}
+use mathlib.Core.Path.{_≡_, sym, ap, _∙_, subst}
+use lib.ListN.{length, set, take, replicate, length-append, length-map, length-replicate, replicate-append-replicate}
+use lib.Seq.{take-all, take-at, take-take, take-append-le, take-append-add, take-append-seam, set-append-seam, append-snoc, length-take-le}
+use Rattle.lists.specs.All.{All}
+use Rattle.lists.proofs.All.{all-from, all-both, map-all, map-back}
+use Rattle.refusal.specs.declared.Verdict.the-variants.{Accepted}
+use Rattle.book.specs.declared.Segment.{Segment}
+use Rattle.book.specs.Entries.{BidEntries, BookEntries, bidEntries, bookEntries}
+use Rattle.book.specs.Rules.{bookVerdict}
+use Rattle.book.proofs.Accepted.{AcceptedBid, book-accepted}
+use Rattle.booktext.specs.Sayable.{SayableBid, SayableBook}
+use Rattle.booktext.specs.Record.{held, emptySegment, emptyBid, bidRecord, bookRecord}
+use Rattle.booktext.proofs.Bids.{all-accepted}
+
+module _ {A : Type 0} where
+  take-replicate : (k m : ℕ) (blank : A) → take k (replicate (k + m) blank) ≡ replicate k blank
+  take-replicate k m blank = rw (← (replicate-append-replicate k m blank)) (take-at _ _ k (length-replicate k blank))
+
+  -- with k places left
+  held-room : (n k : ℕ) (blank : A) (xs : List A) → n ≡ length xs + k → held n blank xs ≡ xs ++ replicate k blank
+  held-room n k blank xs e =
+      let f : n ≡ k + length xs = omega arith in
+      ap (λ (m : ℕ). take m (xs ++ replicate n blank)) e
+      ∙ take-append-add xs (replicate n blank) k
+      ∙ ap (λ (r : List A). xs ++ r) (rw f (take-replicate k (length xs) blank))
+
+  -- always n
+  pub length-held-is : (n : ℕ) (blank : A) (xs : List A) → length (held n blank xs) ≡ n
+  length-held-is n blank xs = length-take-le n (xs ++ replicate n blank) (simp (length-append, length-replicate) (omega arith))
+
+  -- one more entry: stored in the first blank, or nowhere where the record is full
+  pub held-next : (n : ℕ) (blank : A) (xs : List A) (x : A) → length xs < n → set (held n blank xs) (length xs) x ≡ held n blank (xs ++ x ∷ [])
+  held-next n blank xs x h =
+      let k = n - suc (length xs) in
+      let here : n ≡ length xs + suc k = omega arith in
+      let next : n ≡ length (xs ++ x ∷ []) + k = rw length-append (omega arith) in
+      ap (λ (l : List A). set l (length xs) x) (held-room n (suc k) blank xs here)
+      ∙ set-append-seam xs blank (replicate k blank) x
+      ∙ sym (append-snoc xs x (replicate k blank))
+      ∙ sym (held-room n k blank (xs ++ x ∷ []) next)
+
+  pub held-full : (n : ℕ) (blank : A) (xs : List A) (x : A) → n ≤ length xs → held n blank (xs ++ x ∷ []) ≡ held n blank xs
+  held-full n blank xs x h =
+      let more : n ≤ length (xs ++ x ∷ []) = rw length-append (omega arith) in
+      take-append-le n (xs ++ x ∷ []) (replicate n blank) more ∙ take-append-le n xs (x ∷ []) h ∙ sym (take-append-le n xs (replicate n blank) h)
+
+  pub held-none : (n : ℕ) (blank : A) → held n blank [] ≡ replicate n blank
+  held-none n blank = take-all n (replicate n blank) (omega (arith, length-replicate n blank))
+
+  -- within the count, the entries themselves
+  pub take-of-held : (n : ℕ) (blank : A) (xs : List A) → length xs ≤ n → take (length xs) (held n blank xs) ≡ xs
+  take-of-held n blank xs h = take-take (length xs) n (xs ++ replicate n blank) h ∙ take-append-seam xs (replicate n blank)
+
+  take-count : (n count : ℕ) (blank : A) (xs : List A) → count ≡ length xs → count ≤ n → take count (held n blank xs) ≡ xs
+  take-count n count blank xs e h = rw e (take-of-held n blank xs (omega arith))
+
+-- a bid for which a record has room
+abbrev pub FewSegments : BidEntries → Type 0
+FewSegments b = b .count ≤ 6
+
+bid-back : (b : BidEntries) → SayableBid b × FewSegments b → bidEntries (bidRecord b) ≡ b
+unfolding bidRecord
+bid-back b h =
+    let same = take-count 6 (b .count) emptySegment (b .segments) (h .0 .count) (h .1) in
+    ap (λ (ss : List Segment). record { bidder = b .bidder; count = b .count; segments = ss }) same
+
+module _ (b : BookEntries) (sayable : SayableBook b) where
+  -- the bids within the record's count
+  bids-of-record : b .count ≤ 8 → bookEntries (bookRecord b) .bids ≡ map bidEntries (map bidRecord (b .bids))
+  unfolding bookRecord
+  bids-of-record few =
+      let records = map bidRecord (b .bids) in
+      ap (map bidEntries) (take-count 8 (b .count) emptyBid records (rw length-map (sayable .count)) few)
+
+  -- a book for which a record has room
+  pub entries-back : b .count ≤ 8 → All FewSegments (b .bids) → bookEntries (bookRecord b) ≡ b
+  unfolding bookRecord
+  entries-back few segments =
+      let each = all-from _ _ bid-back (b .bids) (all-both SayableBid FewSegments (b .bids) (sayable .bids) segments) in
+      let same = bids-of-record few ∙ map-back bidRecord bidEntries (b .bids) each in
+      ap (λ (bs : List BidEntries). record { demand = b .demand; count = b .count; bids = bs }) same
+
+  -- the counts stay as they are, so that an accepted record had room
+  pub entries-of-record : bookVerdict (bookEntries (bookRecord b)) ≡ Accepted → bookEntries (bookRecord b) ≡ b
+  unfolding bookRecord bidRecord
+  entries-of-record accepted =
+      let said = bookEntries (bookRecord b) in
+      let few = book-accepted said accepted .count-high in
+      let bids = subst (All AcceptedBid) (bids-of-record few) (all-accepted said accepted) in
+      let each = map-all bidRecord _ (b .bids) (map-all bidEntries AcceptedBid (map bidRecord (b .bids)) bids) in
+      entries-back few (all-from _ FewSegments (λ x a. a .count-high) (b .bids) each)
