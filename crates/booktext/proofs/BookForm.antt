@@ -9,6 +9,7 @@ use Rattle.lists.specs.All.{All}
 use Rattle.lists.specs.Joined.{joined}
 use Rattle.forms.specs.Bytes.{ascii}
 use Rattle.forms.specs.Digits.{digits, signedDigits}
+use Rattle.forms.specs.Shape.{Reading}
 use Rattle.forms.proofs.Form.{Form, Next, any}
 use Rattle.forms.proofs.Word.{word}
 use Rattle.forms.proofs.Number.{number, Number, NoDigit}
@@ -17,6 +18,7 @@ use Rattle.forms.proofs.Pair.{pair, Follows}
 use Rattle.forms.proofs.Via.{via, Same}
 use Rattle.forms.proofs.Many.{Headed}
 use Rattle.forms.proofs.Some.{some-of, some-headed}
+use Rattle.forms.proofs.Whole.{reading}
 use Rattle.book.specs.declared.Segment.{Segment}
 use Rattle.book.specs.Entries.{BidEntries, BookEntries}
 use Rattle.booktext.specs.BookText.{segmentText, bidText, bookText}
@@ -173,3 +175,7 @@ same-book = record {
 
 abbrev pub book : Form BookEntries
 book = via book-parts toBook fromBook SayableBook bookText same-book
+
+-- every text has a reading
+pub book-reading : (t : List ℕ) → Reading SayableBook bookText t
+book-reading t = reading book t

@@ -21,7 +21,7 @@ module _ {A : Type 0} (x : ℕ) (p : Form A) (heads : Headed x p) (again : p .Ma
   S = some-of x p heads again
 
   -- an item takes at least a byte
-  moves : {i e : ℕ} {a : A} → Found p t i a e → i < e
+  pub moves : {i e : ℕ} {a : A} → Found p t i a e → i < e
   moves {a = a} f = omega (arith, wide p t f, ap length (heads a (valid p t f) .1))
 
   -- where the next byte begins an item, the item is parsed and then the others
@@ -62,42 +62,59 @@ module _ {A : Type 0} (x : ℕ) (p : Form A) (heads : Headed x p) (again : p .Ma
       go [] h = none-left x p 0
       go (b ∷ s) h = no-item x p (length (b ∷ s)) b s (eqb-false b x h)
 
-  -- A loop has parsed the items xs, of which the first was parsed from the place i, and now stands at e: what it parses from
-  -- there on belongs to the same list. Each item but one that was broken off has taken a byte.
+  -- A loop that stood at i has parsed the items xs and now stands at e: what it parses from there on belongs to the same list.
   pub record Run (i : ℕ) (before : Bool) (xs : List A) (e : ℕ) (stop : Bool) : Type 0 where
     pub within : e ≤ length t
-    pub few : length xs ≤ e + 1
-    pub fewer : stop ≡ false → length xs ≤ e
-    pub goes-on : (ys : List A) (g : ℕ) (last : Bool) → Reads M t e stop ys g last → Reads S t i before (xs ++ ys) g last
+    pub goes-on : (ys : List A) (g : ℕ) (last : Bool) → Reads M t e stop ys g last → Reads M t i before (xs ++ ys) g last
 
-  pub run-first : (i : ℕ) (before : Bool) (a : A) (e : ℕ) (stop : Bool) → i ≤ length t → Reads p t i before a e stop → Run i before (a ∷ []) e stop
-  run-first i before a e stop l r = record {
-    within = reads-within p t i before a e stop l r;
-    few = omega arith;
-    fewer = λ q. let f = moves (reads-found p t i before a e stop q r .1) in omega arith;
-    goes-on = λ ys g last m. reads-via (first-and-more x p heads again) (listed x p heads again) (split x p heads again) (OneOrMore x p heads again) (joined (p .text)) (same-items x p heads again) t i before (a, ys) g last
-        (reads-both p M (item-follows x p heads again) t i before a e stop ys g last r m);
-  }
+  pub run-start : (i : ℕ) (before : Bool) → i ≤ length t → Run i before [] i before
+  run-start i before l = record { within = l; goes-on = λ ys g last m. m }
 
-  -- the code's test whether another item begins
-  module _ (i : ℕ) (before : Bool) (xs : List A) (e : ℕ) (stop : Bool) (run : Run i before xs e stop) where
-    pub run-next : (a : A) (g : ℕ) (last : Bool) → not stop && startsWith x (drop e t) ≡ true → Reads p t e stop a g last → Run i before (xs ++ a ∷ []) g last
-    run-next a g last h r = go stop refl h r
+  -- the code's test tells that another item begins
+  module _ (e : ℕ) (stop : Bool) (test : not stop && startsWith x (drop e t) ≡ true) (a : A) (g : ℕ) (last : Bool) (item : Reads p t e stop a g last) where
+    pub going : stop ≡ false
+    going = go stop test
       where
-        go : (w : Bool) → stop ≡ w → not w && startsWith x (drop e t) ≡ true → Reads p t e w a g last → Run i before (xs ++ a ∷ []) g last
-        go true q h r = absurd (true≢false (sym h))
-        go false q h r = record {
-          within = reads-within p t e false a g last (run .within) r;
-          few = omega (arith, length-append xs (a ∷ []), run .fewer q, reads-from p t e a g last r);
-          fewer = λ k. omega (arith, length-append xs (a ∷ []), run .fewer q, moves (reads-found p t e false a g last k r .1));
-          goes-on = λ ys f end m.
-              subst (λ (zs : List A). Reads S t i before zs f end) (sym (append-assoc xs (a ∷ []) ys))
-              (run .goes-on (a ∷ ys) f end (subst (λ (w : Bool). Reads M t e w (a ∷ ys) f end) (sym q) (more-items e a g last ys f end h r m)));
-        }
+        go : (w : Bool) → not w && startsWith x (drop e t) ≡ true → w ≡ false
+        go true h = absurd (true≢false (sym h))
+        go false h = refl
 
-    pub run-done : not stop && startsWith x (drop e t) ≡ false → Reads S t i before xs e stop
-    run-done h = subst (λ (zs : List A). Reads S t i before zs e stop) (append-nil xs) (run .goes-on [] e stop (go stop refl h))
+    begins : startsWith x (drop e t) ≡ true
+    begins = go stop test
       where
-        go : (w : Bool) → stop ≡ w → not w && startsWith x (drop e t) ≡ false → Reads M t e stop [] e stop
-        go true q h = reads-still M t e stop [] q
-        go false q h = subst (λ (w : Bool). Reads M t e w [] e w) (sym q) (no-items e (run .within) h)
+        go : (w : Bool) → not w && startsWith x (drop e t) ≡ true → startsWith x (drop e t) ≡ true
+        go true h = absurd (true≢false (sym h))
+        go false h = h
+
+    gives : Gives p t e a g last
+    gives = subst (λ (w : Bool). Reads p t e w a g last) going item
+
+    pub run-next : (i : ℕ) (before : Bool) (xs : List A) → Run i before xs e stop → Run i before (xs ++ a ∷ []) g last
+    run-next i before xs run = record {
+      within = reads-within p t e stop a g last (run .within) item;
+      goes-on = λ ys f end m.
+          subst (λ (zs : List A). Reads M t i before zs f end) (sym (append-assoc xs (a ∷ []) ys))
+          (run .goes-on (a ∷ ys) f end (subst (λ (w : Bool). Reads M t e w (a ∷ ys) f end) (sym going) (more-items e a g last ys f end begins gives m)));
+    }
+
+    -- an item takes a byte, or it is broken off
+    pub item-on : e ≤ g
+    item-on = reads-from p t e a g last gives
+
+    pub item-moves : last ≡ false → e < g
+    item-moves q = moves (reads-found p t e stop a g last q item .1)
+
+  -- and that none does
+  pub run-done : (i : ℕ) (before : Bool) (xs : List A) (e : ℕ) (stop : Bool) → Run i before xs e stop → not stop && startsWith x (drop e t) ≡ false → Reads M t i before xs e stop
+  run-done i before xs e stop run h = subst (λ (zs : List A). Reads M t i before zs e stop) (append-nil xs) (run .goes-on [] e stop (go stop refl h))
+    where
+      go : (w : Bool) → stop ≡ w → not w && startsWith x (drop e t) ≡ false → Reads M t e stop [] e stop
+      go true q h = reads-still M t e stop [] q
+      go false q h = subst (λ (w : Bool). Reads M t e w [] e w) (sym q) (no-items e (run .within) h)
+
+  -- one item, and then the others
+  pub first-then : (i : ℕ) (before : Bool) (a : A) (e : ℕ) (mid : Bool) (xs : List A) (g : ℕ) (stop : Bool) → Reads p t i before a e mid → Reads M t e mid xs g stop
+      → Reads S t i before (a ∷ xs) g stop
+  first-then i before a e mid xs g stop r m =
+      reads-via (first-and-more x p heads again) (listed x p heads again) (split x p heads again) (OneOrMore x p heads again) (joined (p .text)) (same-items x p heads again) t i before (a, xs) g stop
+      (reads-both p M (item-follows x p heads again) t i before a e mid xs g stop r m)

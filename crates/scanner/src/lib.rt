@@ -33,6 +33,7 @@ pub struct ParsedInteger {
 pub fn word(text: &[u8], from: Cursor, w: &[u8]) -> Cursor
     requires { ⌜ from .at ≤ length (now text) ⌝ }
     ensures { λ r. ⌜ Scans (Word.word (now (w .entry))) (now (text .entry)) from tt r ⌝ }
+    ensures { λ r. ⌜ r .at ≤ length (now (text .entry)) ⌝ }
 {
     if from.stopped {
         return from;
@@ -66,6 +67,7 @@ pub fn number(text: &[u8], from: Cursor, least: u8) -> ParsedNumber
     requires { ⌜ least ≤ 1 ⌝ }
     ensures { λ r. ⌜ r .value < 10000000000000 ⌝ }
     ensures { λ r. ⌜ ScansNumber least (now (text .entry)) from (r .value) (r .next) ⌝ }
+    ensures { λ r. ⌜ r .next .at ≤ length (now (text .entry)) ⌝ }
 {
     if from.stopped {
         return ParsedNumber {
@@ -109,6 +111,7 @@ pub fn number(text: &[u8], from: Cursor, least: u8) -> ParsedNumber
 pub fn signed(text: &[u8], from: Cursor) -> ParsedInteger
     requires { ⌜ from .at ≤ length (now text) ⌝ }
     ensures { λ r. ⌜ Scans Signed.signed (now (text .entry)) from (r .value) (r .next) ⌝ }
+    ensures { λ r. ⌜ r .next .at ≤ length (now (text .entry)) ⌝ }
 {
     if begins(text, from, b'-') {
         let at = from.at;
@@ -138,6 +141,7 @@ pub fn signed(text: &[u8], from: Cursor) -> ParsedInteger
 pub fn field(text: &[u8], from: Cursor, w: &[u8]) -> ParsedNumber
     requires { ⌜ from .at ≤ length (now text) ⌝ }
     ensures { λ r. ⌜ ScansField (now (w .entry)) (now (text .entry)) from (r .value) (r .next) ⌝ }
+    ensures { λ r. ⌜ r .next .at ≤ length (now (text .entry)) ⌝ }
 {
     let n = number(text, from, 0);
     let between = n.next;

@@ -24,7 +24,7 @@ abbrev μ-loop : tie.MeasureT-loop
 
 -- src/lib.rt:62:9
 returns : tie.Need-returns Inv-loop μ-loop
-returns c = let a = c .before .before .args in (omega arith, λ small. reads-still (number (a .least) small) (a .text .now) (a .from .at) (a .from .stopped) 0 (c .if1 .taken))
+returns c = let a = c .before .before .args in (omega arith, (λ small. reads-still (number (a .least) small) (a .text .now) (a .from .at) (a .from .stopped) 0 (c .if1 .taken), c .before .before .pre .0))
 
 -- src/lib.rt:65:9
 is-first-at-requires : tie.Need-is-first-at-requires Inv-loop μ-loop
@@ -34,7 +34,7 @@ is-first-at-requires c κs = c .before .before .pre .1
 returns-2 : tie.Need-returns-2 Inv-loop μ-loop
 returns-2 c =
     let a = c .before .before .before .before .args in
-    (omega arith, λ small. reads-going (number (a .least) small) (a .text .now) (a .from .at) (a .from .stopped) 0 (a .from .at) true (c .before .before .if1 .left) (number-none (a .least) small (a .text .now) (a .from .at) (c .before .before .before .before .pre .0) (failed (c .before .is-first-at .ensures) (c .if2 .taken))))
+    (omega arith, (λ small. reads-going (number (a .least) small) (a .text .now) (a .from .at) (a .from .stopped) 0 (a .from .at) true (c .before .before .if1 .left) (number-none (a .least) small (a .text .now) (a .from .at) (c .before .before .before .before .pre .0) (failed (c .before .is-first-at .ensures) (c .if2 .taken))), c .before .before .before .before .pre .0))
 
 -- src/lib.rt:71:38
 shared-slice-read-value-of : tie.Need-shared-slice-read-value-of Inv-loop μ-loop
@@ -65,7 +65,7 @@ returns-3 : tie.Need-returns-3 Inv-loop μ-loop
 returns-3 c =
     let a = c .before .before .before .before .before .before .before .before .before .before .before .args in
     let l = c .before .before .before .before .loop in
-    (l .inv (c .before .before .before .before .before .before .before .before .before .before .before .pre .1) .few, λ small. reads-going (number (a .least) small) (a .text .now) (a .from .at) (a .from .stopped) (l .value) (l .i) false (c .before .before .before .before .before .before .before .before .before .if1 .left) (number-stops (a .least) small (a .text .now) (a .from .at) (l .value) (l .i) (l .inv small) (omega arith) (failed (c .before .goes-on .ensures) (c .if3 .taken))))
+    (l .inv (c .before .before .before .before .before .before .before .before .before .before .before .pre .1) .few, (λ small. reads-going (number (a .least) small) (a .text .now) (a .from .at) (a .from .stopped) (l .value) (l .i) false (c .before .before .before .before .before .before .before .before .before .if1 .left) (number-stops (a .least) small (a .text .now) (a .from .at) (l .value) (l .i) (l .inv small) (omega arith) (failed (c .before .goes-on .ensures) (c .if3 .taken))), l .inv (c .before .before .before .before .before .before .before .before .before .before .before .pre .1) .to))
 
 -- src/lib.rt:81:17
 mul-value : tie.Need-mul-value Inv-loop μ-loop
@@ -103,7 +103,7 @@ returns-4 : tie.Need-returns-4 Inv-loop μ-loop
 returns-4 c =
     let a = c .before .before .before .before .before .before .before .before .args in
     let l = c .before .loop in
-    (l .inv (c .before .before .before .before .before .before .before .before .pre .1) .few, λ small. reads-going (number (a .least) small) (a .text .now) (a .from .at) (a .from .stopped) (l .value) (l .i) false (c .before .before .before .before .before .before .if1 .left) (number-ends (a .least) small (a .text .now) (a .from .at) (l .value) (l .i) (l .inv small) (omega arith)))
+    (l .inv (c .before .before .before .before .before .before .before .before .pre .1) .few, (λ small. reads-going (number (a .least) small) (a .text .now) (a .from .at) (a .from .stopped) (l .value) (l .i) false (c .before .before .before .before .before .before .if1 .left) (number-ends (a .least) small (a .text .now) (a .from .at) (l .value) (l .i) (l .inv small) (omega arith)), l .inv (c .before .before .before .before .before .before .before .before .pre .1) .to))
 
 pub number-spec : {M : Type 1} → statement M
 number-spec =

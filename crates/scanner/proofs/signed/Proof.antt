@@ -35,9 +35,11 @@ minus-requires c κs = search needs
 returns : tie.Need-returns
 returns c =
     let a = c .before .before .before .before .before .before .args in
-    let n = c .before .before .number .result in
-    subst (λ (z : ℤ). Reads signed (a .text .now) (a .from .at) (a .from .stopped) z (n .next .at) (n .next .stopped)) (sym (minus-kept (n .value) (c .before .before .number .ensures .0) (c .minus .result) (c .minus .ensures)))
-    (signed-minus (a .text .now) (a .from .at) (a .from .stopped) (n .value) (n .next .at) (n .next .stopped) (sym (c .before .before .before .before .begins .ensures) ∙ c .before .before .before .if1 .taken) (c .before .before .number .ensures .1 from-1))
+    let n = c .before .before .number .result in (
+      subst (λ (z : ℤ). Reads signed (a .text .now) (a .from .at) (a .from .stopped) z (n .next .at) (n .next .stopped)) (sym (minus-kept (n .value) (c .before .before .number .ensures .0) (c .minus .result) (c .minus .ensures)))
+          (signed-minus (a .text .now) (a .from .at) (a .from .stopped) (n .value) (n .next .at) (n .next .stopped) (sym (c .before .before .before .before .begins .ensures) ∙ c .before .before .before .if1 .taken) (c .before .before .number .ensures .1 .0 from-1)),
+      c .before .before .number .ensures .1 .1,
+    )
 
 -- src/lib.rt:104:9
 number-requires-2 : tie.Need-number-requires-2
@@ -51,9 +53,11 @@ plus-requires c κs = search needs
 returns-2 : tie.Need-returns-2
 returns-2 c =
     let a = c .before .before .before .before .before .before .args in
-    let n = c .before .before .number2 .result in
-    subst (λ (z : ℤ). Reads signed (a .text .now) (a .from .at) (a .from .stopped) z (n .next .at) (n .next .stopped)) (sym (plus-kept (n .value) (c .before .before .number2 .ensures .0) (c .plus .result) (c .plus .ensures)))
-    (signed-plain (a .text .now) (a .from .at) (a .from .stopped) (n .value) (n .next .at) (n .next .stopped) (sym (c .before .before .before .before .begins .ensures) ∙ c .before .before .before .if1 .left) (c .before .before .number2 .ensures .1 from-0))
+    let n = c .before .before .number2 .result in (
+      subst (λ (z : ℤ). Reads signed (a .text .now) (a .from .at) (a .from .stopped) z (n .next .at) (n .next .stopped)) (sym (plus-kept (n .value) (c .before .before .number2 .ensures .0) (c .plus .result) (c .plus .ensures)))
+          (signed-plain (a .text .now) (a .from .at) (a .from .stopped) (n .value) (n .next .at) (n .next .stopped) (sym (c .before .before .before .before .begins .ensures) ∙ c .before .before .before .if1 .left) (c .before .before .number2 .ensures .1 .0 from-0)),
+      c .before .before .number2 .ensures .1 .1,
+    )
 
 pub signed-spec : {M : Type 1} → statement M
 signed-spec =

@@ -20,7 +20,7 @@ abbrev μ-loop : tie.MeasureT-loop
 
 -- src/lib.rt:38:9
 returns : tie.Need-returns Inv-loop μ-loop
-returns c = let a = c .before .args in reads-still (word (a .w .now)) (a .text .now) (a .from .at) (a .from .stopped) tt (c .if1 .taken)
+returns c = let a = c .before .args in (reads-still (word (a .w .now)) (a .text .now) (a .from .at) (a .from .stopped) tt (c .if1 .taken), c .before .pre)
 
 -- src/lib.rt:42:5
 loop-holds : tie.Need-loop-holds Inv-loop μ-loop
@@ -39,7 +39,7 @@ returns-2 : tie.Need-returns-2 Inv-loop μ-loop
 returns-2 c =
     let a = c .before .before .before .before .args in
     let l = c .before .before .loop in
-    reads-going (word (a .w .now)) (a .text .now) (a .from .at) (a .from .stopped) tt (a .from .at + l .i) true (c .before .before .before .if1 .left) (along-end (a .text .now) (a .w .now) (a .from .at) (l .i) (l .inv) (omega arith) (c .if2 .taken))
+    (reads-going (word (a .w .now)) (a .text .now) (a .from .at) (a .from .stopped) tt (a .from .at + l .i) true (c .before .before .before .if1 .left) (along-end (a .text .now) (a .w .now) (a .from .at) (l .i) (l .inv) (omega arith) (c .if2 .taken)), l .inv .in-text)
 
 -- src/lib.rt:46:17
 add-if3 : tie.Need-add-if3 Inv-loop μ-loop
@@ -62,7 +62,7 @@ returns-3 : tie.Need-returns-3 Inv-loop μ-loop
 returns-3 c =
     let a = c .before .before .before .before .before .before .before .args in
     let l = c .before .before .before .before .before .loop in
-    reads-going (word (a .w .now)) (a .text .now) (a .from .at) (a .from .stopped) tt (a .from .at + l .i) true (c .before .before .before .before .before .before .if1 .left) (along-differ (a .text .now) (a .w .now) (a .from .at) (l .i) (l .inv) (omega arith) (omega arith) (c .if3 .taken))
+    (reads-going (word (a .w .now)) (a .text .now) (a .from .at) (a .from .stopped) tt (a .from .at + l .i) true (c .before .before .before .before .before .before .if1 .left) (along-differ (a .text .now) (a .w .now) (a .from .at) (l .i) (l .inv) (omega arith) (omega arith) (c .if3 .taken)), l .inv .in-text)
 
 -- src/lib.rt:49:9
 add-i : tie.Need-add-i Inv-loop μ-loop
@@ -88,7 +88,7 @@ returns-4 : tie.Need-returns-4 Inv-loop μ-loop
 returns-4 c =
     let a = c .before .before .before .args in
     let l = c .before .loop in
-    reads-going (word (a .w .now)) (a .text .now) (a .from .at) (a .from .stopped) tt (a .from .at + l .i) false (c .before .before .if1 .left) (along-done (a .text .now) (a .w .now) (a .from .at) (l .i) (l .inv) (omega arith))
+    (reads-going (word (a .w .now)) (a .text .now) (a .from .at) (a .from .stopped) tt (a .from .at + l .i) false (c .before .before .if1 .left) (along-done (a .text .now) (a .w .now) (a .from .at) (l .i) (l .inv) (omega arith)), l .inv .in-text)
 
 pub word-spec : {M : Type 1} → statement M
 word-spec =

@@ -1,0 +1,78 @@
+-- What a parsed text is answered. Assumes nothing.
+use Prim.Native.Nat.{ℕ, suc, _+_, _-_, _≤_, _<_}
+use native.Mathlib.Omega.{arith}
+use mathlib.Core.Bool.{Bool, true, false, cond}
+use mathlib.Core.List.{List, [], _∷_}
+use mathlib.Core.Path.{_≡_, refl, sym, ap, ap₂, _∙_}
+use borrow.Author.Tests.{le-leb, lt-leb}
+use lib.Dec.{leb}
+use lib.ListN.{length, drop, getD, drop-of-length-le}
+use lib.Seq.{drop-cons}
+use Rattle.refusal.specs.Checks.{whenAccepted}
+use Rattle.refusal.specs.declared.Rule.{Rule}
+use Rattle.refusal.specs.declared.Rule.the-variants.{TextLength, Shape}
+use Rattle.refusal.specs.declared.Verdict.{Verdict}
+use Rattle.refusal.specs.declared.Verdict.the-variants.{Accepted, Refused}
+use Rattle.book.specs.declared.Book.{Book}
+use Rattle.book.specs.Entries.{BookEntries, bookEntries}
+use Rattle.book.specs.Rules.{bookVerdict}
+use Rattle.forms.specs.Shape.{answer}
+use Rattle.forms.proofs.Parse.{parsed, stopped}
+use Rattle.forms.proofs.Place.{Found, Stops, wide}
+use Rattle.forms.proofs.Whole.{parsed-text, stopped-longest, stopped-none, ended-longest, ended-none, answer-said, answer-stopped}
+use Rattle.booktext.specs.BookText.{bookText}
+use Rattle.booktext.specs.Sayable.{SayableBook}
+use Rattle.booktext.specs.Record.{bookRecord, emptyBook}
+use Rattle.booktext.proofs.BookForm.{book, book-reading}
+use Rattle.reader.specs.declared.BookRead.{BookRead}
+use Rattle.reader.specs.Reading.{refusedBook, saidBook, readOf}
+
+module _ (t : List ℕ) where
+  abbrev answered : BookRead
+  answered = answer SayableBook bookText saidBook (refusedBook Shape) (book-reading t)
+
+  pub read-long : 4096 < length t → refusedBook TextLength 4096 ≡ readOf t
+  unfolding readOf
+  read-long h = ap (λ (b : Bool). cond b answered (refusedBook TextLength 4096)) (sym (lt-leb (length t) 4096 h))
+
+  module _ (short : length t ≤ 4096) where
+    by-answer : (r : BookRead) → answered ≡ r → r ≡ readOf t
+    unfolding readOf
+    by-answer r e = sym e ∙ ap (λ (b : Bool). cond b answered (refusedBook TextLength 4096)) (sym (le-leb (length t) 4096 short))
+
+    -- parsing stopped
+    pub read-stopped : (e : ℕ) → Stops book t 0 e → refusedBook Shape e ≡ readOf t
+    read-stopped e s =
+        let z : e - 0 ≡ e = omega arith in
+        let q = s .finds ∙ ap (λ (n : ℕ). stopped n) z in
+        by-answer (refusedBook Shape e) (answer-stopped book saidBook (refusedBook Shape) t e (stopped-none book t e q) (stopped-longest book t e q) (book-reading t))
+
+    -- a book was parsed, and the text goes on
+    pub read-ended : (b : BookEntries) (e : ℕ) → Found book t 0 b e → e < length t → refusedBook Shape e ≡ readOf t
+    read-ended b e f h =
+        let q = f .finds ∙ ap (λ (r : List ℕ). parsed b r) (drop-cons t e 0 h) in
+        let n = length (bookText b) in
+        let z : n ≡ e = omega (arith, wide book t f) in
+        ap (refusedBook Shape) (sym z)
+        ∙ by-answer (refusedBook Shape n)
+        (answer-stopped book saidBook (refusedBook Shape) t n (ended-none book t b (getD t e 0) (drop (suc e) t) q) (ended-longest book t b (getD t e 0) (drop (suc e) t) q) (book-reading t))
+
+    -- the text says a book
+    pub read-said : (b : BookEntries) (e : ℕ) → Found book t 0 b e → length t ≤ e → saidBook b ≡ readOf t
+    read-said b e f h =
+        by-answer (saidBook b)
+        (answer-said book saidBook (refusedBook Shape) t b (parsed-text book t b (f .finds ∙ ap (λ (r : List ℕ). parsed b r) (drop-of-length-le t h))) (book-reading t))
+
+-- what the record's verdict gives
+pub said-refused : (b : BookEntries) (r : Book) (verdict : Verdict) (rule : Rule) (line : ℕ) → r ≡ bookRecord b → verdict ≡ bookVerdict (bookEntries r) → verdict ≡ Refused rule line
+    → refusedBook rule line ≡ saidBook b
+unfolding saidBook
+said-refused b r verdict rule line k e q =
+    ap (λ (v : Verdict). record { verdict = v; book = whenAccepted v (bookRecord b) emptyBook }) (sym q ∙ e ∙ ap (λ (x : Book). bookVerdict (bookEntries x)) k)
+
+pub said-accepted : (b : BookEntries) (r : Book) (verdict : Verdict) → r ≡ bookRecord b → verdict ≡ bookVerdict (bookEntries r) → verdict ≡ Accepted
+    → record { verdict = verdict; book = r } ≡ saidBook b
+unfolding saidBook
+said-accepted b r verdict k e q =
+    ap₂ (λ (v : Verdict) (x : Book). record { verdict = v; book = x }) q k
+    ∙ ap (λ (v : Verdict). record { verdict = v; book = whenAccepted v (bookRecord b) emptyBook }) (sym q ∙ e ∙ ap (λ (x : Book). bookVerdict (bookEntries x)) k)

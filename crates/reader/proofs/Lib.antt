@@ -1,0 +1,4 @@
+mod Collecting
+mod Kept
+mod Parts
+mod Answers

@@ -1,0 +1,95 @@
+use mathlib.Core.Path.{_≡_, _∙_, subst}
+use Rattle.forms.proofs.Place.{Gives}
+use Rattle.booktext.proofs.BookForm.{book}
+use Rattle.reader.proofs.Answers.{read-long, read-stopped, read-ended, read-said, said-refused, said-accepted}
+use borrow.Author.Needs.{needs}
+use Rattle.reader.proofs.read.Statement.{statement}
+use Rattle.reader.proofs.read.Tie as tie
+use Rattle.reader.proofs.read.Reads as reads
+use Rattle.reader.proofs.read.Lts as lts
+use Rattle.book.proofs.check.Reads as check-reads
+use Rattle.reader.proofs.bids.book.Reads as book-reads
+use Rattle.reader.proofs.refused.Reads as refused-reads
+
+-- src/lib.rt:34:9
+refused-requires : tie.Need-refused-requires
+refused-requires c κs = search needs
+
+-- src/lib.rt:34:9
+returns : tie.Need-returns
+returns c = c .refused .ensures ∙ read-long (c .before .before .before .args .text .now) (c .before .if1 .taken)
+
+-- src/lib.rt:36:9
+book-requires : tie.Need-book-requires
+book-requires c κs = search needs
+
+-- src/lib.rt:39:9
+refused-requires-2 : tie.Need-refused-requires-2
+refused-requires-2 c κs = search needs
+
+-- src/lib.rt:39:9
+returns-2 : tie.Need-returns-2
+returns-2 c =
+    let t = c .before .before .before .before .before .before .args .text .now in
+    let b = c .before .before .before .book in
+    c .refused2 .ensures ∙ read-stopped t (c .before .before .before .before .if1 .left) (b .result .next .at) (subst (Gives book t 0 (b .ensures .0) (b .result .next .at)) (c .before .if2 .taken) (b .ensures .2))
+
+-- src/lib.rt:42:9
+refused-requires-3 : tie.Need-refused-requires-3
+refused-requires-3 c κs = search needs
+
+-- src/lib.rt:42:9
+returns-3 : tie.Need-returns-3
+returns-3 c =
+    let t = c .before .before .before .before .before .before .before .before .args .text .now in
+    let b = c .before .before .before .before .before .book in
+    c .refused3 .ensures ∙ read-ended t (c .before .before .before .before .before .before .if1 .left) (b .ensures .0) (b .result .next .at) (subst (Gives book t 0 (b .ensures .0) (b .result .next .at)) (c .before .before .before .if2 .left) (b .ensures .2)) (c .before .if3 .taken)
+
+-- src/lib.rt:45:9
+check-requires : tie.Need-check-requires
+check-requires c κs = search needs
+
+-- src/lib.rt:46:29
+enum-known-verdict : tie.Need-enum-known-verdict
+enum-known-verdict c = search needs
+
+-- src/lib.rt:47:9
+refused-requires-4 : tie.Need-refused-requires-4
+refused-requires-4 c κs = search needs
+
+-- src/lib.rt:47:9
+returns-4 : tie.Need-returns-4
+returns-4 c =
+    let t = c .before .before .before .before .before .before .before .before .before .before .before .before .before .args .text .now in
+    let b = c .before .before .before .before .before .before .before .before .before .before .book in
+    let said = read-said t (c .before .before .before .before .before .before .before .before .before .before .before .if1 .left) (b .ensures .0) (b .result .next .at) (subst (Gives book t 0 (b .ensures .0) (b .result .next .at)) (c .before .before .before .before .before .before .before .before .if2 .left) (b .ensures .2)) (c .before .before .before .before .before .before .if3 .left) in
+    c .refused4 .ensures ∙ said-refused (b .ensures .0) (b .result .book) (c .before .before .before .before .check .result) (c .before .before .verdict .given .0 .0) (c .before .before .verdict .given .0 .1 .0) (b .ensures .1) (c .before .before .before .before .check .ensures) (c .before .before .verdict .given .1) ∙ said
+
+enum-told : tie.Need-enum-told
+enum-told c = search needs
+
+-- src/lib.rt:30:1
+returns-5 : tie.Need-returns-5
+returns-5 c =
+    let t = c .before .before .before .before .before .before .before .before .before .before .before .args .text .now in
+    let b = c .before .before .before .before .before .before .before .before .book in
+    let said = read-said t (c .before .before .before .before .before .before .before .before .before .if1 .left) (b .ensures .0) (b .result .next .at) (subst (Gives book t 0 (b .ensures .0) (b .result .next .at)) (c .before .before .before .before .before .before .if2 .left) (b .ensures .2)) (c .before .before .before .before .if3 .left) in
+    said-accepted (b .ensures .0) (b .result .book) (c .before .before .check .result) (b .ensures .1) (c .before .before .check .ensures) (c .enum-told .given .1) ∙ said
+
+pub read-spec : {M : Type 1} → statement M
+read-spec =
+    tie.close
+    (tie.spec
+    refused-requires
+    returns
+    book-requires
+    refused-requires-2
+    returns-2
+    refused-requires-3
+    returns-3
+    check-requires
+    enum-known-verdict
+    refused-requires-4
+    returns-4
+    enum-told
+    returns-5)

@@ -1,0 +1,18 @@
+use mathlib.Core.Path.{_≡_}
+use borrow.Author.Needs.{needs}
+use Rattle.reader.proofs.records.empty_bid.Statement.{statement}
+use Rattle.reader.proofs.records.empty_bid.Tie as tie
+use Rattle.reader.proofs.records.empty_bid.Reads as reads
+use Rattle.reader.proofs.records.empty_bid.Lts as lts
+use Rattle.reader.proofs.records.empty_segment.Reads as empty-segment-reads
+
+-- src/records.rt:27:9
+empty-segment-requires : tie.Need-empty-segment-requires
+empty-segment-requires c κs = search needs
+
+-- src/records.rt:24:1
+returns : tie.Need-returns
+returns c = rw (c .empty-segment .ensures)
+
+pub empty-bid-spec : {M : Type 1} → statement M
+empty-bid-spec = tie.close (tie.spec empty-segment-requires returns)

@@ -1,0 +1,18 @@
+use mathlib.Core.Path.{_≡_}
+use borrow.Author.Needs.{needs}
+use Rattle.reader.proofs.records.empty_book.Statement.{statement}
+use Rattle.reader.proofs.records.empty_book.Tie as tie
+use Rattle.reader.proofs.records.empty_book.Reads as reads
+use Rattle.reader.proofs.records.empty_book.Lts as lts
+use Rattle.reader.proofs.records.empty_bid.Reads as empty-bid-reads
+
+-- src/records.rt:38:9
+empty-bid-requires : tie.Need-empty-bid-requires
+empty-bid-requires c κs = search needs
+
+-- src/records.rt:35:1
+returns : tie.Need-returns
+returns c = rw (c .empty-bid .ensures)
+
+pub empty-book-spec : {M : Type 1} → statement M
+empty-book-spec = tie.close (tie.spec empty-bid-requires returns)

@@ -1,0 +1,30 @@
+use borrow.Author.Tests.{lt-ltb, le-ltb}
+use mathlib.Core.Path.{_≡_}
+use borrow.Author.Needs.{needs}
+use Rattle.reader.proofs.records.with_bid.Statement.{statement}
+use Rattle.reader.proofs.records.with_bid.Tie as tie
+use Rattle.reader.proofs.records.with_bid.Reads as reads
+use Rattle.reader.proofs.records.with_bid.Lts as lts
+
+-- src/records.rt:66:18
+add-next : tie.Need-add-next
+add-next c = search needs
+
+-- src/records.rt:68:9
+returns : tie.Need-returns
+returns c = rw (le-ltb (c .before .args .book .count) 8 (c .if1 .taken))
+
+-- src/records.rt:70:5
+mul-bid : tie.Need-mul-bid
+mul-bid c = search needs
+
+-- src/records.rt:70:5
+element-set-from-bid : tie.Need-element-set-from-bid
+element-set-from-bid c = search needs
+
+-- src/records.rt:60:1
+returns-2 : tie.Need-returns-2
+returns-2 c = rw (lt-ltb (c .before .args .book .count) 8 (c .if1 .left))
+
+pub with-bid-spec : {M : Type 1} → statement M
+with-bid-spec = tie.close (tie.spec add-next returns mul-bid element-set-from-bid returns-2)

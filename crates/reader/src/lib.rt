@@ -1,0 +1,50 @@
+// Reading a bid book from its text.
+ghost use mathlib.Core.Path.{_≡_};
+ghost use Rattle.reader.specs.Reading.{readOf, refusedBook};
+
+// The parts of a text. The modules are private: what is pub in them serves this crate alone.
+mod bids;
+mod records;
+mod segments;
+
+use book::Book;
+use refusal::Rule;
+use refusal::Verdict;
+
+// The book that a text says, or all zeros beside a refusal.
+pub struct BookRead {
+    pub verdict: Verdict,
+    pub book: Book,
+}
+
+fn refused(rule: Rule, place: u64) -> BookRead
+    ensures { λ r. ⌜ r ≡ refusedBook rule place ⌝ }
+{
+    BookRead {
+        verdict: Verdict::Refused(rule, place),
+        book: records::empty_book(),
+    }
+}
+
+// Reads a book from any bytes: the whole text is held against the shape before any rule.
+pub fn read(text: &[u8]) -> BookRead
+    ensures { λ r. ⌜ r ≡ readOf (now (text .entry)) ⌝ }
+{
+    if 4_096 < text.len() {
+        return refused(Rule::TextLength, 4_096);
+    }
+    let said = bids::book(text);
+    let next = said.next;
+    if next.stopped {
+        return refused(Rule::Shape, next.at as u64);
+    }
+    if next.at < text.len() {
+        return refused(Rule::Shape, next.at as u64);
+    }
+    let book = said.book;
+    let verdict = book::check(book);
+    if let Verdict::Refused(rule, line) = verdict {
+        return refused(rule, line);
+    }
+    BookRead { verdict, book }
+}
