@@ -1,3 +1,4 @@
 pub mod Tests
 pub mod Slices
 pub mod Everywhere
+pub mod Joined

@@ -2,7 +2,7 @@
 ghost use mathlib.Core.Path.{_≡_};
 ghost use Prim.Native.Nat.{_≤_};
 ghost use lib.ListN.{length};
-ghost use Rattle.lists.specs.Joined.{joined};
+ghost use Rattle.forms.specs.Digits.{signedDigits};
 ghost use Rattle.book.specs.Entries.{bidEntries, bookEntries};
 ghost use Rattle.book.specs.Rules.{bookVerdict};
 ghost use Rattle.booktext.specs.BookText.{segmentText, bidText, bookText};
@@ -10,18 +10,27 @@ ghost use Rattle.refusal.specs.declared.Verdict.the-variants.{Accepted};
 use book::Bid;
 use book::Book;
 use book::Segment;
+use money::Cents;
+
+// The fixed price, with its sign.
+fn fixed_length(fixed: Cents) -> usize
+    ensures { λ r. ⌜ r ≡ length (signedDigits (fixed .0)) ⌝ }
+    ensures { λ r. ⌜ r ≤ 21 ⌝ }
+{
+    let size = printer::digit_count(money::magnitude(fixed));
+    if fixed.0 < 0 {
+        return 1 + size;
+    }
+    size
+}
 
 fn segment_length(s: Segment) -> usize
     ensures { λ r. ⌜ r ≡ length (segmentText s) ⌝ }
     ensures { λ r. ⌜ r ≤ 91 ⌝ }
 {
     let fixed = s.fixed;
-    let mut sign: usize = 0;
-    if fixed.0 < 0 {
-        sign = 1;
-    }
-    let size = printer::digit_count(money::magnitude(fixed));
-    10 + printer::digit_count(s.start.0) + printer::digit_count(s.end.0) + printer::digit_count(s.unit.0) + sign + size
+    let size = fixed_length(fixed);
+    10 + printer::digit_count(s.start.0) + printer::digit_count(s.end.0) + printer::digit_count(s.unit.0) + size
 }
 
 fn bid_length(bid: Bid) -> usize
