@@ -1,11 +1,13 @@
--- What every record and every output gets, case by case. Assumes nothing.
+-- What every record and every output gets, case by case, as the code comes to it. Assumes nothing.
 use Prim.Native.Nat.{ℕ, _≤_, _<_}
+use native.Mathlib.Omega.{arith}
 use mathlib.Core.List.{List}
-use mathlib.Core.Path.{_≡_, refl}
+use mathlib.Core.Path.{_≡_, refl, sym, _∙_}
 use borrow.Author.Tests.{le-leb, lt-leb}
 use lib.ListN.{length}
 use Rattle.refusal.specs.declared.Rule.{Rule}
 use Rattle.refusal.specs.declared.Rule.the-variants.{OutputLength}
+use Rattle.refusal.specs.declared.Verdict.{Verdict}
 use Rattle.refusal.specs.declared.Verdict.the-variants.{Accepted, Refused}
 use Rattle.book.specs.declared.Book.{Book}
 use Rattle.book.specs.Entries.{bookEntries}
@@ -14,18 +16,21 @@ use Rattle.printer.specs.Written.{written}
 use Rattle.writer.specs.Writing.{textOf, writeVerdict, writeOf, outputOf}
 use Rattle.writer.specs.declared.BookWritten.{BookWritten}
 
-module _ (book : Book) (out : List ℕ) where
-  pub no-book : (rule : Rule) (place : ℕ) → bookVerdict (bookEntries book) ≡ Refused rule place
-      → (record { verdict = Refused rule place; bytes = 0 } ≡ writeOf book (length out)) × (out ≡ outputOf book out)
-  unfolding writeVerdict writeOf outputOf
-  no-book rule place e = rw e (refl, refl)
+-- the answer and the output at exit are those that are stated
+abbrev pub Answered : Book → List ℕ → BookWritten → List ℕ → Type 0
+Answered book out answer exit = (answer ≡ writeOf book (length out)) × (exit ≡ outputOf book out)
 
-  pub too-short : bookVerdict (bookEntries book) ≡ Accepted → length out < length (textOf book)
-      → (record { verdict = Refused OutputLength (length (textOf book)); bytes = 0 } ≡ writeOf book (length out)) × (out ≡ outputOf book out)
+module _ (book : Book) (out : List ℕ) (verdict : Verdict) (checked : verdict ≡ bookVerdict (bookEntries book)) where
+  pub no-book : (rule : Rule) (place : ℕ) → verdict ≡ Refused rule place → Answered book out (record { verdict = verdict; bytes = 0 }) out
   unfolding writeVerdict writeOf outputOf
-  too-short e h = rw (e, lt-leb (length (textOf book)) (length out) h) (refl, refl)
+  no-book rule place told = rw (sym checked ∙ told, told) (refl, refl)
 
-  pub in-full : bookVerdict (bookEntries book) ≡ Accepted → length (textOf book) ≤ length out
-      → (record { verdict = Accepted; bytes = length (textOf book) } ≡ writeOf book (length out)) × (written out 0 (textOf book) ≡ outputOf book out)
-  unfolding writeVerdict writeOf outputOf
-  in-full e h = rw (e, le-leb (length (textOf book)) (length out) h) (refl, refl)
+  module _ (told : verdict ≡ Accepted) (needed : ℕ) (measured : needed ≡ length (textOf book)) where
+    pub too-short : length out < needed → Answered book out (record { verdict = Refused OutputLength needed; bytes = 0 }) out
+    unfolding writeVerdict writeOf outputOf
+    too-short h = rw (sym checked ∙ told, lt-leb (length (textOf book)) (length out) (omega arith), measured) (refl, refl)
+
+    pub in-full : needed ≤ length out → (exit : List ℕ) → exit ≡ written out 0 (textOf book)
+        → Answered book out (record { verdict = verdict; bytes = needed }) exit
+    unfolding writeVerdict writeOf outputOf
+    in-full h exit e = rw (sym checked ∙ told, told, le-leb (length (textOf book)) (length out) (omega arith), measured) (refl, e)

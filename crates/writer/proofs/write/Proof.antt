@@ -1,46 +1,54 @@
+use native.Mathlib.Omega.{arith}
+use mathlib.Core.Path.{sym, _∙_}
 use borrow.Author.Needs.{needs}
+use Rattle.writer.proofs.Answers.{no-book, too-short, in-full}
 use Rattle.writer.proofs.write.Statement.{statement}
 use Rattle.writer.proofs.write.Tie as tie
-use Rattle.writer.proofs.write.Reads as reads
-use Rattle.writer.proofs.write.Lts as lts
-use Rattle.book.proofs.check.Reads as check-reads
-use Rattle.writer.proofs.lengths.book_length.Reads as book-length-reads
-use Rattle.writer.proofs.lines.write_book.Reads as write-book-reads
 
--- src/lib.rt:25:9
 check-requires : tie.Need-check-requires
 check-requires c κs = search needs
 
--- src/lib.rt:27:9
 enum-told : tie.Need-enum-told
 enum-told c = search needs
 
--- src/lib.rt:27:9
 returns : tie.Need-returns
-returns c = ?
+returns c =
+    let check = c .before .before .check in
+    let a = c .before .before .before .before .args in
+    let told = c .enum-told .given in
+    no-book (a .book) (a .out .now) (check .result) (check .ensures) (told .0 .0) (told .0 .1 .0) (told .1)
 
 enum-told-2 : tie.Need-enum-told-2
 enum-told-2 c = search needs
 
--- src/lib.rt:29:9
 book-length-requires : tie.Need-book-length-requires
-book-length-requires c κs = ?
+book-length-requires c κs = sym (c .before .before .check .ensures) ∙ c .enum-told2 .given .1
 
--- src/lib.rt:31:9
 returns-2 : tie.Need-returns-2
-returns-2 c = ?
+returns-2 c =
+    let length = c .before .book-length in
+    let told = c .before .before in
+    let check = told .before .before .check in
+    let a = told .before .before .before .before .args in
+    too-short (a .book) (a .out .now) (check .result) (check .ensures) (told .enum-told2 .given .1) (length .result) (length .ensures) (c .if1 .taken)
 
--- src/lib.rt:36:5
 write-book-requires : tie.Need-write-book-requires
-write-book-requires c κs = ?
+write-book-requires c κs =
+    let told = c .before .before .before in
+    (sym (told .before .before .check .ensures) ∙ told .enum-told2 .given .1, omega (arith, c .before .before .book-length .ensures, c .before .if1 .left))
 
--- src/lib.rt:21:1
 same-length : tie.Need-same-length
 same-length c = search needs
 
--- src/lib.rt:21:1
 returns-3 : tie.Need-returns-3
-returns-3 c = ?
+returns-3 c =
+    let write = c .before .before .write-book in
+    let fits = c .before .before .before .before in
+    let length = fits .before .book-length in
+    let told = fits .before .before in
+    let check = told .before .before .check in
+    let a = told .before .before .before .before .args in
+    in-full (a .book) (a .out .now) (check .result) (check .ensures) (told .enum-told2 .given .1) (length .result) (length .ensures) (fits .if1 .left) (write .last .0) (write .ensures .1)
 
 pub write-spec : {M : Type 1} → statement M
 write-spec =
