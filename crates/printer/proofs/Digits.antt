@@ -1,13 +1,13 @@
 -- The digits of a number, written at the beginning of an output. Assumes nothing.
 use Prim.Native.Nat.{ℕ, _+_, _/_, _%_, _≤_, _<_}
 use native.Mathlib.Omega.{arith}
-use mathlib.Core.List.{List, [], _∷_, _++_}
-use mathlib.Core.Path.{_≡_, refl, sym, ap, _∙_, subst}
+use mathlib.Core.List.{List, [], _∷_}
+use mathlib.Core.Path.{_≡_}
 use lib.ListN.{length, set}
 use Rattle.forms.specs.Digits.{digits}
 use Rattle.forms.proofs.Digits.{digits-one, digits-more, length-more}
-use Rattle.printer.specs.Written.{written, Wrote}
-use Rattle.printer.proofs.Written.{length-written, wrote-byte, wrote-then}
+use Rattle.printer.specs.Written.{Wrote}
+use Rattle.printer.proofs.Written.{wrote-byte, wrote-then}
 
 -- a number of one digit
 pub wrote-digit : (out : List ℕ) (n b : ℕ) → n < 10 → 0 < length out → b ≡ 48 + n → Wrote out 0 (digits n) (set out 0 b) 1

@@ -1,5 +1,5 @@
 -- Bytes written into an output: one after the other, byte by byte, and through a part of it. Assumes nothing.
-use Prim.Native.Nat.{ℕ, suc, _+_, _-_, _≤_, _<_}
+use Prim.Native.Nat.{ℕ, _+_, _-_, _≤_, _<_}
 use native.Mathlib.Nat.{add-assoc}
 use native.Mathlib.Numerals.{add-one}
 use native.Mathlib.Omega.{arith}
@@ -32,10 +32,10 @@ written-append out at a b h =
     let first : take at out ++ (a ++ rest) ≡ front ++ rest = sym (append-assoc (take at out) a rest) in
     let before : take k (take at out ++ (a ++ rest)) ≡ front = ap (take k) first ∙ take-at front rest k size in
     let after : drop (k + length b) (take at out ++ (a ++ rest)) ≡ drop (k + length b) out =
-        ap (drop (k + length b)) first
-        ∙ ap (λ (n : ℕ). drop (n + length b) (front ++ rest)) (sym size)
-        ∙ drop-append-add front rest (length b)
-        ∙ drop-drop (length b) k out in
+    ap (drop (k + length b)) first
+    ∙ ap (λ (n : ℕ). drop (n + length b) (front ++ rest)) (sym size)
+    ∙ drop-append-add front rest (length b)
+    ∙ drop-drop (length b) k out in
     let both : k + length b ≡ at + length (a ++ b) = add-assoc at (length a) (length b) ∙ ap (λ (n : ℕ). at + n) (sym (length-append a b)) in
     ap₂ (λ (x y : List ℕ). x ++ (b ++ y)) before (after ∙ ap (λ (n : ℕ). drop n out) both)
     ∙ append-assoc (take at out) a (b ++ drop (at + length (a ++ b)) out)
@@ -58,8 +58,8 @@ module _ (out : List ℕ) (at : ℕ) where
   wrote-then a mid next b exit end room first second = (
     omega (arith, first .0, second .0, length-append a b),
     second .1
-    ∙ ap₂ (λ (d : List ℕ) (n : ℕ). written d n b) (first .1) (first .0)
-    ∙ written-append out at a b room,
+        ∙ ap₂ (λ (d : List ℕ) (n : ℕ). written d n b) (first .1) (first .0)
+        ∙ written-append out at a b room,
   )
 
 -- The part from a place on, `&mut out[at..]`, written at its beginning, and the output then.
@@ -74,8 +74,8 @@ part-back out at s part n h w =
     let past : length (drop at out) ≤ length out - at = omega (arith, length-drop at out) in
     let none : 0 + length s ≡ length s = omega arith in
     let back : part ++ postOf at (length out - at) out ≡ s ++ drop (at + length s) out =
-        ap₂ (λ (u v : List ℕ). u ++ v) (w .1) (drop-of-length-le (drop at out) past)
-        ∙ append-nil _
-        ∙ ap₂ (λ (u : List ℕ) (k : ℕ). s ++ drop k u) (part-all out at) none
-        ∙ ap (λ (u : List ℕ). s ++ u) (drop-drop (length s) at out) in
+    ap₂ (λ (u v : List ℕ). u ++ v) (w .1) (drop-of-length-le (drop at out) past)
+    ∙ append-nil _
+    ∙ ap₂ (λ (u : List ℕ) (k : ℕ). s ++ drop k u) (part-all out at) none
+    ∙ ap (λ (u : List ℕ). s ++ u) (drop-drop (length s) at out) in
     (omega (arith, w .0), ap (λ (u : List ℕ). take at out ++ u) back)

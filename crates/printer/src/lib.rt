@@ -4,7 +4,7 @@ ghost use mathlib.Core.Path.{_≡_};
 ghost use mathlib.Core.List.{_++_};
 ghost use Prim.Native.Nat.{_+_, _≤_, _<_};
 ghost use lib.ListN.{length};
-ghost use Rattle.forms.specs.Digits.{digits, signedDigits};
+ghost use Rattle.forms.specs.Digits.{digits};
 ghost use Rattle.printer.specs.Written.{Wrote};
 
 // The bytes of w, from `at` on.

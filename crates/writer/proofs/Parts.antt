@@ -2,7 +2,7 @@
 use Prim.Native.Nat.{ℕ, _+_, _≤_, _<_}
 use native.Mathlib.Omega.{arith}
 use mathlib.Core.List.{List, _++_, append-assoc}
-use mathlib.Core.Path.{_≡_, refl, sym, ap, _∙_, subst}
+use mathlib.Core.Path.{_≡_, sym, subst}
 use lib.ListN.{length, getD, take, length-append}
 use Rattle.lists.specs.Joined.{joined}
 use Rattle.lists.proofs.Joined.{joined-next, joined-room}
@@ -11,7 +11,7 @@ use Rattle.forms.specs.Digits.{digits, signedDigits}
 use Rattle.book.specs.declared.Segment.{Segment}
 use Rattle.book.specs.Entries.{BidEntries, BookEntries}
 use Rattle.booktext.specs.BookText.{segmentText, bidText, bookText}
-use Rattle.printer.specs.Written.{written, Wrote}
+use Rattle.printer.specs.Written.{Wrote}
 use Rattle.printer.proofs.Written.{wrote-then}
 use Rattle.writer.proofs.Sizes.{segment-size, bid-size, book-size}
 

@@ -30,7 +30,11 @@ fn segment_length(s: Segment) -> usize
 {
     let fixed = s.fixed;
     let size = fixed_length(fixed);
-    10 + printer::digit_count(s.start.0) + printer::digit_count(s.end.0) + printer::digit_count(s.unit.0) + size
+    10
+        + printer::digit_count(s.start.0)
+        + printer::digit_count(s.end.0)
+        + printer::digit_count(s.unit.0)
+        + size
 }
 
 fn bid_length(bid: Bid) -> usize

@@ -1,7 +1,6 @@
 use Prim.Native.Nat.{ℕ, _<_}
 use native.Mathlib.Omega.{arith}
 use mathlib.Core.Path.{_∙_}
-use borrow.Author.Needs.{needs}
 use lib.ListN.{length-set}
 use Rattle.forms.proofs.Digits.{length-one, length-more}
 use Rattle.printer.proofs.Digits.{wrote-digit, wrote-digits}

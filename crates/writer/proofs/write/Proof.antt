@@ -26,11 +26,11 @@ book-length-requires c κs = sym (c .before .before .check .ensures) ∙ c .enum
 
 returns-2 : tie.Need-returns-2
 returns-2 c =
-    let length = c .before .book-length in
+    let size = c .before .book-length in
     let told = c .before .before in
     let check = told .before .before .check in
     let a = told .before .before .before .before .args in
-    too-short (a .book) (a .out .now) (check .result) (check .ensures) (told .enum-told2 .given .1) (length .result) (length .ensures) (c .if1 .taken)
+    too-short (a .book) (a .out .now) (check .result) (check .ensures) (told .enum-told2 .given .1) (size .result) (size .ensures) (c .if1 .taken)
 
 write-book-requires : tie.Need-write-book-requires
 write-book-requires c κs =
@@ -44,11 +44,11 @@ returns-3 : tie.Need-returns-3
 returns-3 c =
     let write = c .before .before .write-book in
     let fits = c .before .before .before .before in
-    let length = fits .before .book-length in
+    let size = fits .before .book-length in
     let told = fits .before .before in
     let check = told .before .before .check in
     let a = told .before .before .before .before .args in
-    in-full (a .book) (a .out .now) (check .result) (check .ensures) (told .enum-told2 .given .1) (length .result) (length .ensures) (fits .if1 .left) (write .last .0) (write .ensures .1)
+    in-full (a .book) (a .out .now) (check .result) (check .ensures) (told .enum-told2 .given .1) (size .result) (size .ensures) (fits .if1 .left) (write .last .0) (write .ensures .1)
 
 pub write-spec : {M : Type 1} → statement M
 write-spec =

@@ -6,7 +6,7 @@ use lib.ListN.{length, getD, take}
 use Rattle.lists.specs.Joined.{joined}
 use Rattle.lists.proofs.Slices.{length-held}
 use Rattle.lists.proofs.Joined.{joined-room}
-use Rattle.book.specs.Entries.{bidEntries, bookEntries}
+use Rattle.book.specs.Entries.{bidEntries}
 use Rattle.book.proofs.Records.{noBid}
 use Rattle.book.proofs.Accepted.{AcceptedBid, few-bids, bid-at}
 use Rattle.printer.specs.Written.{Wrote}

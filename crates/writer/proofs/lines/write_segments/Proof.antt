@@ -1,12 +1,11 @@
-use Prim.Native.Nat.{ℕ, _+_, _-_, _≤_}
+use Prim.Native.Nat.{ℕ, _-_, _≤_}
 use native.Mathlib.Omega.{arith}
 use mathlib.Core.Path.{_≡_, refl, ap, _∙_}
 use borrow.Author.Needs.{needs}
-use lib.ListN.{length, getD, take}
+use lib.ListN.{length, take}
 use Rattle.lists.specs.Joined.{joined}
 use Rattle.lists.proofs.Slices.{length-held}
 use Rattle.lists.proofs.Joined.{joined-room}
-use Rattle.book.specs.Entries.{bidEntries}
 use Rattle.book.proofs.Records.{noSegment}
 use Rattle.booktext.specs.BookText.{segmentText}
 use Rattle.printer.specs.Written.{Wrote}
