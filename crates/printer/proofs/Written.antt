@@ -20,62 +20,70 @@ pub written-paste : (out : List ℕ) (at : ℕ) (s : List ℕ) (n : ℕ) → n �
 unfolding written
 written-paste out at s n e = rw (e, take-length s) (append-assoc (take at out) s (drop (at + length s) out))
 
--- one text after the other
-pub written-append : (out : List ℕ) (at : ℕ) (a b : List ℕ) → at + length a ≤ length out
-    → written (written out at a) (at + length a) b ≡ written out at (a ++ b)
-unfolding written
-written-append out at a b h =
-    let k : ℕ = at + length a in
-    let front : List ℕ = take at out ++ a in
-    let rest : List ℕ = drop k out in
-    let size : length front ≡ k = length-append (take at out) a ∙ ap (λ (n : ℕ). n + length a) (length-take-le at out (omega arith)) in
-    let first : take at out ++ (a ++ rest) ≡ front ++ rest = sym (append-assoc (take at out) a rest) in
-    let before : take k (take at out ++ (a ++ rest)) ≡ front = ap (take k) first ∙ take-at front rest k size in
-    let after : drop (k + length b) (take at out ++ (a ++ rest)) ≡ drop (k + length b) out =
-    ap (drop (k + length b)) first
-    ∙ ap (λ (n : ℕ). drop (n + length b) (front ++ rest)) (sym size)
-    ∙ drop-append-add front rest (length b)
-    ∙ drop-drop (length b) k out in
-    let both : k + length b ≡ at + length (a ++ b) = add-assoc at (length a) (length b) ∙ ap (λ (n : ℕ). at + n) (sym (length-append a b)) in
-    ap₂ (λ (x y : List ℕ). x ++ (b ++ y)) before (after ∙ ap (λ (n : ℕ). drop n out) both)
-    ∙ append-assoc (take at out) a (b ++ drop (at + length (a ++ b)) out)
-    ∙ ap (λ (x : List ℕ). take at out ++ x) (sym (append-assoc a b (drop (at + length (a ++ b)) out)))
+module _ (out : List ℕ) (at : ℕ) (a : List ℕ) (room : at + length a ≤ length out) where
+  front-size : length (take at out ++ a) ≡ at + length a
+  front-size = length-append (take at out) a ∙ ap (λ (n : ℕ). n + length a) (length-take-le at out (omega arith))
+
+  -- what is written, cut after it
+  in-two : written out at a ≡ (take at out ++ a) ++ drop (at + length a) out
+  unfolding written
+  in-two = sym (append-assoc (take at out) a (drop (at + length a) out))
+
+  up-to : take (at + length a) (written out at a) ≡ take at out ++ a
+  up-to = ap (take (at + length a)) in-two ∙ take-at (take at out ++ a) (drop (at + length a) out) (at + length a) front-size
+
+  past : (n : ℕ) → drop (at + length a + n) (written out at a) ≡ drop (at + length a + n) out
+  past n =
+      ap (drop (at + length a + n)) in-two
+      ∙ ap (λ (k : ℕ). drop (k + n) ((take at out ++ a) ++ drop (at + length a) out)) (sym front-size)
+      ∙ drop-append-add (take at out ++ a) (drop (at + length a) out) n
+      ∙ drop-drop n (at + length a) out
+
+  -- one text after the other
+  pub written-append : (b : List ℕ) → written (written out at a) (at + length a) b ≡ written out at (a ++ b)
+  unfolding written
+  written-append b =
+      let both : at + length a + length b ≡ at + length (a ++ b) = add-assoc at (length a) (length b) ∙ ap (λ (n : ℕ). at + n) (sym (length-append a b)) in
+      ap₂ (λ (x y : List ℕ). x ++ (b ++ y)) up-to (past (length b) ∙ ap (λ (n : ℕ). drop n out) both)
+      ∙ append-assoc (take at out) a (b ++ drop (at + length (a ++ b)) out)
+      ∙ ap (λ (x : List ℕ). take at out ++ x) (sym (append-assoc a b (drop (at + length (a ++ b)) out)))
 
 module _ (out : List ℕ) (at : ℕ) where
   -- nothing written
   pub wrote-none : Wrote out at [] out at
   unfolding written
-  wrote-none = (omega arith, sym (let e : at + 0 ≡ at = omega arith in ap (λ (n : ℕ). take at out ++ drop n out) e ∙ take-append-drop at out))
+  wrote-none =
+      let here : at + 0 ≡ at = omega arith in
+      (sym here, sym (ap (λ (n : ℕ). take at out ++ drop n out) here ∙ take-append-drop at out))
 
   -- one byte
   pub wrote-byte : (b : ℕ) → at < length out → Wrote out at (b ∷ []) (set out at b) (at + 1)
   unfolding written
   wrote-byte b h = (refl, set-split out at b h ∙ ap (λ (n : ℕ). take at out ++ (b ∷ drop n out)) (sym (add-one at)))
 
-  -- then a text, and then another
+  -- a text, and then another
   pub wrote-then : (a : List ℕ) (mid : List ℕ) (next : ℕ) (b : List ℕ) (exit : List ℕ) (end : ℕ) → at + length a ≤ length out
       → Wrote out at a mid next → Wrote mid next b exit end → Wrote out at (a ++ b) exit end
-  wrote-then a mid next b exit end room first second = (
-    omega (arith, first .0, second .0, length-append a b),
-    second .1
-        ∙ ap₂ (λ (d : List ℕ) (n : ℕ). written d n b) (first .1) (first .0)
-        ∙ written-append out at a b room,
-  )
+  wrote-then a mid next b exit end room first second =
+      let then = ap₂ (λ (d : List ℕ) (n : ℕ). written d n b) (first .1) (first .0) ∙ written-append out at a room b in
+      (omega (arith, first .0, second .0, length-append a b), second .1 ∙ then)
 
--- The part from a place on, `&mut out[at..]`, written at its beginning, and the output then.
+-- The part from a place on, `&mut out[at..]`, written at its beginning: what the output is then.
 
-part-all : (out : List ℕ) (at : ℕ) → midOf at (length out - at) out ≡ drop at out
-part-all out at = take-all (length out - at) (drop at out) (omega (arith, length-drop at out))
+module _ (out : List ℕ) (at : ℕ) where
+  whole-part : midOf at (length out - at) out ≡ drop at out
+  whole-part = take-all (length out - at) (drop at out) (omega (arith, length-drop at out))
 
-pub part-back : (out : List ℕ) (at : ℕ) (s part : List ℕ) (n : ℕ) → at ≤ length out → Wrote (midOf at (length out - at) out) 0 s part n
-    → Wrote out at s (putMid at (length out - at) out part) (at + n)
-unfolding written
-part-back out at s part n h w =
-    let past : length (drop at out) ≤ length out - at = omega (arith, length-drop at out) in
-    let none : 0 + length s ≡ length s = omega arith in
-    let back : part ++ postOf at (length out - at) out ≡ s ++ drop (at + length s) out =
-    ap₂ (λ (u v : List ℕ). u ++ v) (w .1) (drop-of-length-le (drop at out) past)
-    ∙ append-nil _
-    ∙ ap₂ (λ (u : List ℕ) (k : ℕ). s ++ drop k u) (part-all out at) none
-    ∙ ap (λ (u : List ℕ). s ++ u) (drop-drop (length s) at out) in
-    (omega (arith, w .0), ap (λ (u : List ℕ). take at out ++ u) back)
+  none-past : postOf at (length out - at) out ≡ []
+  none-past =
+      let all : length (drop at out) ≤ length out - at = omega (arith, length-drop at out) in
+      drop-of-length-le (drop at out) all
+
+  pub part-back : (s part : List ℕ) (n : ℕ) → at ≤ length out → Wrote (midOf at (length out - at) out) 0 s part n
+      → Wrote out at s (putMid at (length out - at) out part) (at + n)
+  unfolding written
+  part-back s part n h w =
+      let start : 0 + length s ≡ length s = omega arith in
+      let rest = ap₂ (λ (u : List ℕ) (k : ℕ). s ++ drop k u) whole-part start ∙ ap (λ (u : List ℕ). s ++ u) (drop-drop (length s) at out) in
+      let back = ap₂ (λ (u v : List ℕ). u ++ v) (w .1) none-past ∙ append-nil _ ∙ rest in
+      (omega (arith, w .0), ap (λ (u : List ℕ). take at out ++ u) back)
