@@ -1,0 +1,4 @@
+pub mod Signs
+pub mod Sizes
+pub mod Parts
+pub mod Answers

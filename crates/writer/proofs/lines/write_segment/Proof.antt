@@ -1,0 +1,85 @@
+use native.Mathlib.Omega.{arith}
+use borrow.Author.Needs.{needs}
+use Rattle.writer.proofs.Sizes.{segment-size}
+use Rattle.writer.proofs.Parts.{wrote-segment}
+use Rattle.writer.proofs.lines.write_segment.Statement.{statement}
+use Rattle.writer.proofs.lines.write_segment.Tie as tie
+
+slice-aggregate-write-number : tie.Need-slice-aggregate-write-number
+slice-aggregate-write-number c = search needs
+
+write-number-requires : tie.Need-write-number-requires
+write-number-requires c κs = omega (arith, segment-size (c .before .before .before .args .s))
+
+slice-aggregate-write-number-2 : tie.Need-slice-aggregate-write-number-2
+slice-aggregate-write-number-2 c = search needs
+
+write-number-requires-2 : tie.Need-write-number-requires-2
+write-number-requires-2 c κs =
+    let w₁ = c .before .before .before .before in
+    let s = w₁ .before .before .before .before in
+    omega (arith, segment-size (s .args .s), s .pre, w₁ .write-number .ensures .0, w₁ .write-number .kept .0)
+
+slice-aggregate-write-number-3 : tie.Need-slice-aggregate-write-number-3
+slice-aggregate-write-number-3 c = search needs
+
+write-number-requires-3 : tie.Need-write-number-requires-3
+write-number-requires-3 c κs =
+    let w₂ = c .before .before .before .before in
+    let w₁ = w₂ .before .before .before .before .before in
+    let s = w₁ .before .before .before .before in
+    omega (arith, segment-size (s .args .s), s .pre, w₁ .write-number .ensures .0, w₁ .write-number .kept .0, w₂ .write-number2 .ensures .0, w₂ .write-number2 .kept .0)
+
+write-fixed-requires : tie.Need-write-fixed-requires
+write-fixed-requires c κs =
+    let w₃ = c .before .before .before .before in
+    let w₂ = w₃ .before .before .before .before .before in
+    let w₁ = w₂ .before .before .before .before .before in
+    let s = w₁ .before .before .before .before in
+    omega (arith, segment-size (s .args .s), s .pre, w₁ .write-number .ensures .0, w₁ .write-number .kept .0, w₂ .write-number2 .ensures .0, w₂ .write-number2 .kept .0, w₃ .write-number3 .ensures .0, w₃ .write-number3 .kept .0)
+
+slice-aggregate-write-word : tie.Need-slice-aggregate-write-word
+slice-aggregate-write-word c = search needs
+
+write-word-requires : tie.Need-write-word-requires
+write-word-requires c κs =
+    let w₄ = c .before .before .before .before in
+    let w₃ = w₄ .before .before .before .before .before in
+    let w₂ = w₃ .before .before .before .before .before in
+    let w₁ = w₂ .before .before .before .before .before in
+    let s = w₁ .before .before .before .before in
+    omega (arith, segment-size (s .args .s), s .pre, w₁ .write-number .ensures .0, w₁ .write-number .kept .0, w₂ .write-number2 .ensures .0, w₂ .write-number2 .kept .0, w₃ .write-number3 .ensures .0, w₃ .write-number3 .kept .0, w₄ .write-fixed .ensures .0, w₄ .write-fixed .kept .0)
+
+same-length : tie.Need-same-length
+same-length c = search needs
+
+returns : tie.Need-returns
+returns c =
+    let w₅ = c .before .before in
+    let w₄ = w₅ .before .before .before .before .before in
+    let w₃ = w₄ .before .before .before .before .before in
+    let w₂ = w₃ .before .before .before .before .before in
+    let w₁ = w₂ .before .before .before .before .before in
+    let s = w₁ .before .before .before .before in
+    let a = w₁ .write-number in
+    let b = w₂ .write-number2 in
+    let d = w₃ .write-number3 in
+    let e = w₄ .write-fixed in
+    let f = w₅ .write-word in
+    wrote-segment (s .args .out .now) (s .args .at) (s .args .s) (a .last .0) (b .last .0) (d .last .0) (e .last .0) (f .last .0) (a .result) (b .result) (d .result) (e .result) (f .result) (s .pre) (a .ensures) (b .ensures) (d .ensures) (e .ensures) (f .ensures)
+
+pub write-segment-spec : {M : Type 1} → statement M
+write-segment-spec =
+    tie.close
+    (tie.spec
+    slice-aggregate-write-number
+    write-number-requires
+    slice-aggregate-write-number-2
+    write-number-requires-2
+    slice-aggregate-write-number-3
+    write-number-requires-3
+    write-fixed-requires
+    slice-aggregate-write-word
+    write-word-requires
+    same-length
+    returns)

@@ -1,0 +1,41 @@
+// Writing a bid book as text.
+ghost use mathlib.Core.Path.{_≡_};
+ghost use lib.ListN.{length};
+ghost use Rattle.writer.specs.Writing.{writeOf, outputOf};
+
+// The lines of the text, and how long they are. The modules are private: what is pub in them serves this crate alone.
+mod lengths;
+mod lines;
+
+use book::Book;
+use refusal::Rule;
+use refusal::Verdict;
+
+// How many bytes were written, or 0 beside a refusal.
+pub struct BookWritten {
+    pub verdict: Verdict,
+    pub bytes: u64,
+}
+
+// Writes the text of an accepted book at the beginning of the output. With a refusal the output is unchanged.
+pub fn write(book: Book, out: &mut [u8]) -> BookWritten
+    ensures { λ r. ⌜ r ≡ writeOf book (length (now (out .entry))) ⌝ }
+    ensures { λ r. ⌜ now (out .exit) ≡ outputOf book (now (out .entry)) ⌝ }
+{
+    let verdict = book::check(book);
+    if let Verdict::Refused(_, _) = verdict {
+        return BookWritten { verdict, bytes: 0 };
+    }
+    let needed = lengths::book_length(book);
+    if out.len() < needed {
+        return BookWritten {
+            verdict: Verdict::Refused(Rule::OutputLength, needed as u64),
+            bytes: 0,
+        };
+    }
+    lines::write_book(out, book);
+    BookWritten {
+        verdict,
+        bytes: needed as u64,
+    }
+}
