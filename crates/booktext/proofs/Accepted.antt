@@ -15,25 +15,18 @@ use Rattle.book.specs.Entries.{bidEntries, bookEntries, SameBook}
 use Rattle.book.specs.Rules.{segmentInRange, bookVerdict}
 use Rattle.book.proofs.Accepted.{AcceptedBid, book-accepted}
 use Rattle.book.proofs.InRange.{in-range}
+use Rattle.booktext.specs.Arrays.{SixSegments, Arrays}
 use Rattle.booktext.specs.Sayable.{SayableSegment, SayableBid, SayableBook}
 use Rattle.booktext.specs.Record.{bookRecord}
 use Rattle.booktext.proofs.Bids.{all-accepted}
 use Rattle.booktext.proofs.Records.{FewSegments, entries-back}
-
--- what the machine guarantees of a record's arrays
-abbrev pub SixHeld : Bid → Type 0
-SixHeld x = length (x .segments) ≡ 6
-
-pub record Held (b : Book) : Type 0 where
-  pub bids : length (b .bids) ≡ 8
-  pub segments : All SixHeld (b .bids)
 
 sayable-segment : (s : Segment) → segmentInRange s ≡ true → SayableSegment s
 sayable-segment s e =
     let r = in-range s e in
     record { start = omega arith; end = omega arith; unit = omega arith; fixed = omega arith }
 
-sayable-bid : (x : Bid) → AcceptedBid (bidEntries x) × SixHeld x → SayableBid (bidEntries x)
+sayable-bid : (x : Bid) → AcceptedBid (bidEntries x) × SixSegments x → SayableBid (bidEntries x)
 sayable-bid x h =
     let few : x .count ≤ length (x .segments) = omega (arith, h .0 .count-high, h .1) in
     let ss = take (x .count) (x .segments) in
@@ -44,19 +37,19 @@ sayable-bid x h =
       segments = all-from _ SayableSegment sayable-segment ss (all-tested segmentInRange ss (h .0 .ranges));
     }
 
-module _ (b : Book) (held : Held b) (accepted : bookVerdict (bookEntries b) ≡ Accepted) where
+module _ (b : Book) (arrays : Arrays b) (accepted : bookVerdict (bookEntries b) ≡ Accepted) where
   pub sayable : SayableBook (bookEntries b)
   sayable =
       let a = book-accepted (bookEntries b) accepted in
-      let few : b .count ≤ length (b .bids) = omega (arith, held .bids) in
+      let few : b .count ≤ length (b .bids) = omega (arith, arrays .bids) in
       let bs = take (b .count) (b .bids) in
       let lines = map-all bidEntries AcceptedBid bs (all-accepted (bookEntries b) accepted) in
-      let arrays = all-take SixHeld (b .count) (b .bids) (held .segments) in
+      let arrays = all-take SixSegments (b .count) (b .bids) (arrays .segments) in
       record {
         demand = omega arith;
         count = rw length-map (sym (length-take-le (b .count) (b .bids) few));
         some = a .count-low;
-        bids = all-map bidEntries SayableBid bs (all-from _ _ sayable-bid bs (all-both _ SixHeld bs lines arrays));
+        bids = all-map bidEntries SayableBid bs (all-from _ _ sayable-bid bs (all-both _ SixSegments bs lines arrays));
       }
 
   pub same-record : SameBook (bookRecord (bookEntries b)) b

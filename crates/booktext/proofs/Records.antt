@@ -2,16 +2,17 @@
 use Prim.Native.Nat.{ℕ, suc, _+_, _-_, _≤_, _<_}
 use native.Mathlib.Omega.{arith}
 use mathlib.Core.List.{List, [], _∷_, _++_, map}
-use mathlib.Core.Path.{_≡_, sym, ap, _∙_, subst}
+use mathlib.Core.Path.{_≡_, refl, sym, ap, _∙_, subst}
 use lib.ListN.{length, set, take, replicate, length-append, length-map, length-replicate, replicate-append-replicate}
 use lib.Seq.{take-all, take-at, take-take, take-append-le, take-append-add, take-append-seam, set-append-seam, append-snoc, length-take-le}
 use Rattle.lists.specs.All.{All}
-use Rattle.lists.proofs.All.{all-from, all-both, map-all, map-back}
+use Rattle.lists.proofs.All.{all-from, all-both, all-any, all-append, all-same, all-take, all-map, map-all, map-back}
 use Rattle.refusal.specs.declared.Verdict.the-variants.{Accepted}
 use Rattle.book.specs.declared.Segment.{Segment}
 use Rattle.book.specs.Entries.{BidEntries, BookEntries, bidEntries, bookEntries}
 use Rattle.book.specs.Rules.{bookVerdict}
 use Rattle.book.proofs.Accepted.{AcceptedBid, book-accepted}
+use Rattle.booktext.specs.Arrays.{SixSegments, Arrays}
 use Rattle.booktext.specs.Sayable.{SayableBid, SayableBook}
 use Rattle.booktext.specs.Record.{held, emptySegment, emptyBid, bidRecord, bookRecord}
 use Rattle.booktext.proofs.Bids.{all-accepted}
@@ -93,3 +94,14 @@ module _ (b : BookEntries) (sayable : SayableBook b) where
       let bids = subst (All AcceptedBid) (bids-of-record few) (all-accepted said accepted) in
       let each = map-all bidRecord _ (b .bids) (map-all bidEntries AcceptedBid (map bidRecord (b .bids)) bids) in
       entries-back few (all-from _ FewSegments (λ x a. a .count-high) (b .bids) each)
+
+-- a record has its arrays in full
+pub record-arrays : (b : BookEntries) → Arrays (bookRecord b)
+unfolding bidRecord bookRecord
+record-arrays b =
+    let bids = map bidRecord (b .bids) in
+    let six = all-map bidRecord SixSegments (b .bids) (all-any _ (λ x. length-held-is 6 emptySegment (x .segments)) (b .bids)) in
+    record {
+      bids = length-held-is 8 emptyBid bids;
+      segments = all-take SixSegments 8 (bids ++ replicate 8 emptyBid) (all-append SixSegments bids (replicate 8 emptyBid) six (all-same SixSegments 8 emptyBid refl));
+    }

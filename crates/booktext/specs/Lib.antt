@@ -1,3 +1,4 @@
 pub mod BookText
 pub mod Sayable
 pub mod Record
+pub mod Arrays

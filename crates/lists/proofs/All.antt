@@ -2,9 +2,9 @@
 use Prim.Native.Nat.{ℕ, zero, suc, _<_, suc-le-suc}
 use native.Mathlib.Nat.{zero-lt-suc}
 use mathlib.Core.Bool.{Bool, true}
-use mathlib.Core.List.{List, [], _∷_, map}
+use mathlib.Core.List.{List, [], _∷_, _++_, map}
 use mathlib.Core.Path.{_≡_, refl, ap₂}
-use lib.ListN.{length, getD, take}
+use lib.ListN.{replicate, length, getD, take}
 use Rattle.lists.specs.All.{All}
 use Rattle.lists.specs.Every.{every}
 use Rattle.lists.proofs.Tests.{both-left, both-right}
@@ -28,6 +28,19 @@ module _ {A : Type 0} where
   pub all-both : (P Q : A → Type 0) (xs : List A) → All P xs → All Q xs → All (λ x. P x × Q x) xs
   all-both P Q [] p q = tt
   all-both P Q (x ∷ xs) p q = ((p .0, q .0), all-both P Q xs (p .1) (q .1))
+
+  -- what holds of any element
+  pub all-any : (P : A → Type 0) → ((x : A) → P x) → (xs : List A) → All P xs
+  all-any P h [] = tt
+  all-any P h (x ∷ xs) = (h x, all-any P h xs)
+
+  pub all-append : (P : A → Type 0) (xs ys : List A) → All P xs → All P ys → All P (xs ++ ys)
+  all-append P [] ys p q = q
+  all-append P (x ∷ xs) ys p q = (p .0, all-append P xs ys (p .1) q)
+
+  pub all-same : (P : A → Type 0) (n : ℕ) (x : A) → P x → All P (replicate n x)
+  all-same P zero x p = tt
+  all-same P (suc n) x p = (p, all-same P n x p)
 
   -- of the first n elements
   pub all-take : (P : A → Type 0) (n : ℕ) (xs : List A) → All P xs → All P (take n xs)

@@ -1,0 +1,110 @@
+-- Demand 2: a book written out reads back as the same book, and an accepted text written out again is the same text. Assumes nothing.
+use Prim.Native.Nat.{ℕ, _+_, _≤_}
+use native.Mathlib.Omega.{arith}
+use mathlib.Core.List.{List, [], _∷_, _++_}
+use mathlib.Core.Path.{_≡_, refl, sym, ap, _∙_, subst}
+use borrow.Author.Tests.{le-leb, leb-true}
+use lib.Dec.{leb}
+use lib.ListN.{length, take, drop}
+use lib.Seq.{take-append-seam}
+use Rattle.refusal.specs.Checks.{unless}
+use Rattle.refusal.specs.declared.Rule.the-variants.{OutputLength}
+use Rattle.refusal.specs.declared.Verdict.{Verdict}
+use Rattle.refusal.specs.declared.Verdict.the-variants.{Accepted}
+use Rattle.refusal.proofs.Firsts.{first-passed, rest-passed, test-holds}
+use Rattle.book.specs.declared.Book.{Book}
+use Rattle.book.specs.Entries.{BookEntries, bookEntries, SameBook}
+use Rattle.book.specs.Rules.{bookVerdict}
+use Rattle.book.specs.Room.{roomOf}
+use Rattle.booktext.specs.BookText.{bookText}
+use Rattle.booktext.specs.Record.{bookRecord, emptyBook}
+use Rattle.booktext.specs.Arrays.{Arrays}
+use Rattle.booktext.proofs.Accepted.{sayable, same-record}
+use Rattle.booktext.proofs.Records.{entries-of-record, record-arrays}
+use Rattle.booktext.proofs.Room.{room-bounds, text-short}
+use Rattle.printer.specs.Written.{written}
+use Rattle.reader.specs.declared.BookRead.{BookRead}
+use Rattle.reader.specs.Reading.{saidBook, readOf}
+use Rattle.writer.specs.Writing.{textOf, writeVerdict, writeOf, outputOf}
+use Rattle.writer.specs.declared.BookWritten.{BookWritten}
+use Rattle.roundtrip.proofs.Reading.{Says, accepted-says, says-read, said-accepted}
+
+-- a record whose book is accepted
+module _ (b : Book) (arrays : Arrays b) (accepted : bookVerdict (bookEntries b) ≡ Accepted) where
+  read-record : readOf (textOf b) ≡ record { verdict = Accepted; book = bookRecord (bookEntries b) }
+  read-record =
+      let e = bookEntries b in
+      let it = sayable b arrays accepted in
+      let short : length (textOf b) ≤ 4096 = omega (arith, text-short e it accepted) in
+      says-read (textOf b) e short (record { sayable = it; is = refl }) ∙ said-accepted e (ap bookVerdict (same-record b arrays accepted) ∙ accepted)
+
+  -- the text of an accepted record is accepted, and says the same book
+  pub reads-back : (readOf (textOf b) .verdict ≡ Accepted) × SameBook (readOf (textOf b) .book) b
+  reads-back = (ap (λ (r : BookRead). r .verdict) read-record, ap (λ (r : BookRead). bookEntries (r .book)) read-record ∙ same-record b arrays accepted)
+
+  -- the room figure bounds the text's length
+  pub room-enough : length (textOf b) ≤ roomOf (bookEntries b) .bytes
+  unfolding roomOf
+  room-enough = rw accepted (room-bounds (bookEntries b) (sayable b arrays accepted) accepted)
+
+-- what is known of a record that was written
+module _ (b : Book) (out : List ℕ) (accepted : writeVerdict b (length out) ≡ Accepted) where
+  abbrev fits : Verdict
+  fits = unless (leb (length (textOf b)) (length out)) OutputLength (length (textOf b))
+
+  pub book-written : bookVerdict (bookEntries b) ≡ Accepted
+  unfolding writeVerdict
+  book-written = first-passed (bookVerdict (bookEntries b)) (fits ∷ []) accepted
+
+  -- the bytes that writing says it wrote are the text
+  pub text-written : take (writeOf b (length out) .bytes) (outputOf b out) ≡ textOf b
+  unfolding writeOf outputOf written
+  text-written = rw accepted (take-append-seam (textOf b) (drop (0 + length (textOf b)) out))
+
+-- reading what was written gives the same book
+pub read-written : (b : Book) (out : List ℕ) → Arrays b → writeVerdict b (length out) ≡ Accepted
+    → (readOf (take (writeOf b (length out) .bytes) (outputOf b out)) .verdict ≡ Accepted) × SameBook (readOf (take (writeOf b (length out) .bytes) (outputOf b out)) .book) b
+read-written b out arrays accepted =
+    subst (λ (t : List ℕ). (readOf t .verdict ≡ Accepted) × SameBook (readOf t .book) b) (sym (text-written b out accepted)) (reads-back b arrays (book-written b out accepted))
+
+-- an accepted text
+module _ (t : List ℕ) (accepted : readOf t .verdict ≡ Accepted) where
+  abbrev meant : BookEntries
+  meant = accepted-says t accepted .0
+
+  it-says : Says t meant
+  it-says = accepted-says t accepted .1
+
+  book-is : readOf t .book ≡ bookRecord meant
+  book-is = ap (λ (r : BookRead). r .book) (it-says .read)
+
+  entries-are : bookEntries (readOf t .book) ≡ meant
+  entries-are = ap bookEntries book-is ∙ entries-of-record meant (it-says .text .sayable) (it-says .accepted)
+
+  -- it is the text of the book that it says
+  pub same-text : textOf (readOf t .book) ≡ t
+  same-text = ap bookText entries-are ∙ sym (it-says .text .is)
+
+  -- which is an accepted book
+  pub book-accepted : bookVerdict (bookEntries (readOf t .book)) ≡ Accepted
+  book-accepted = ap (λ (r : Book). bookVerdict (bookEntries r)) book-is ∙ it-says .accepted
+
+  -- with zeros past the counts
+  pub zeros-past : readOf t .book ≡ bookRecord (bookEntries (readOf t .book))
+  zeros-past = book-is ∙ ap bookRecord (sym entries-are)
+
+  -- writing what was read gives the same text, where the output has room for it
+  pub written-read : (out : List ℕ) → length t ≤ length out
+      → (writeOf (readOf t .book) (length out) ≡ record { verdict = Accepted; bytes = length t }) × (outputOf (readOf t .book) out ≡ written out 0 t)
+  unfolding writeVerdict writeOf outputOf
+  written-read out h = rw (book-accepted, same-text, le-leb (length t) (length out) h) (refl, refl)
+
+  pub arrays-read : Arrays (readOf t .book)
+  arrays-read = subst Arrays (sym book-is) (record-arrays meant)
+
+-- a text is accepted exactly if it is the text of an accepted book, and then says that book
+pub accepted-text : (t : List ℕ) → readOf t .verdict ≡ Accepted → (b : Book) × Arrays b × (bookVerdict (bookEntries b) ≡ Accepted) × (t ≡ textOf b)
+accepted-text t accepted = (readOf t .book, arrays-read t accepted, book-accepted t accepted, sym (same-text t accepted))
+
+pub text-accepted : (t : List ℕ) (b : Book) → Arrays b → bookVerdict (bookEntries b) ≡ Accepted → t ≡ textOf b → (readOf t .verdict ≡ Accepted) × SameBook (readOf t .book) b
+text-accepted t b arrays accepted e = subst (λ (s : List ℕ). (readOf s .verdict ≡ Accepted) × SameBook (readOf s .book) b) (sym e) (reads-back b arrays accepted)
