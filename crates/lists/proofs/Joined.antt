@@ -25,6 +25,10 @@ module _ {A B : Type 0} (f : A → List B) where
       ∙ joined-append (take i xs) (getD xs i d ∷ [])
       ∙ ap (λ (l : List B). joined f (take i xs) ++ l) (append-nil (f (getD xs i d)))
 
+  pub joined-size : (xs : List A) (i : ℕ) (d : A) → i < length xs
+      → length (joined f (take (i + 1) xs)) ≡ length (joined f (take i xs)) + length (f (getD xs i d))
+  joined-size xs i d h = ap length (joined-next xs i d h) ∙ length-append (joined f (take i xs)) (f (getD xs i d))
+
   -- fewer elements are no longer
   pub joined-within : (xs : List A) (i n : ℕ) → i ≤ n → length (joined f (take i xs)) ≤ length (joined f (take n xs))
   joined-within xs i n h =
@@ -34,9 +38,7 @@ module _ {A B : Type 0} (f : A → List B) where
       let size = ap length (ap (joined f) parts ∙ joined-append (take i xs) more) in
       omega (arith, size, length-append (joined f (take i xs)) (joined f more))
 
-  -- nor is what a turn makes of them
+  -- nor are they with the next one
   pub joined-room : (xs : List A) (i n : ℕ) (d : A) → i < n → n ≤ length xs
       → length (joined f (take i xs)) + length (f (getD xs i d)) ≤ length (joined f (take n xs))
-  joined-room xs i n d h k =
-      let next = ap length (joined-next xs i d (omega arith)) in
-      omega (arith, next, length-append (joined f (take i xs)) (f (getD xs i d)), joined-within xs (i + 1) n (omega arith))
+  joined-room xs i n d h k = omega (arith, joined-size xs i d (omega arith), joined-within xs (i + 1) n (omega arith))

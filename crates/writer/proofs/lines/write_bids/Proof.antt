@@ -10,9 +10,8 @@ use Rattle.book.specs.Entries.{bidEntries}
 use Rattle.book.proofs.Records.{noBid}
 use Rattle.book.proofs.Accepted.{AcceptedBid, few-bids, bid-at}
 use Rattle.printer.specs.Written.{Wrote}
-use Rattle.printer.proofs.Written.{wrote-none}
+use Rattle.printer.proofs.Written.{wrote-none, wrote-as, wrote-next}
 use Rattle.writer.proofs.Sizes.{bidLine, bid-lines}
-use Rattle.writer.proofs.Parts.{wrote-as, wrote-next}
 use Rattle.writer.proofs.lines.write_bids.Statement.{statement}
 use Rattle.writer.proofs.lines.write_bids.Tie as tie
 

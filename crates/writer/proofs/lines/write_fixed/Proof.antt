@@ -8,8 +8,8 @@ use mir.Syntax.{w64}
 use mir.Val.{SFits}
 use Rattle.forms.specs.Bytes.{ascii}
 use Rattle.forms.specs.Digits.{digits, signedDigits}
+use Rattle.printer.proofs.Written.{wrote-as}
 use Rattle.writer.proofs.Signs.{negative-digits, plain-digits}
-use Rattle.writer.proofs.Parts.{wrote-as}
 use Rattle.writer.proofs.lines.write_fixed.Statement.{statement}
 use Rattle.writer.proofs.lines.write_fixed.Tie as tie
 

@@ -9,8 +9,7 @@ use Rattle.lists.proofs.Joined.{joined-room}
 use Rattle.book.proofs.Records.{noSegment}
 use Rattle.booktext.specs.BookText.{segmentText}
 use Rattle.printer.specs.Written.{Wrote}
-use Rattle.printer.proofs.Written.{wrote-none}
-use Rattle.writer.proofs.Parts.{wrote-as, wrote-next}
+use Rattle.printer.proofs.Written.{wrote-none, wrote-as, wrote-next}
 use Rattle.writer.proofs.lines.write_segments.Statement.{statement}
 use Rattle.writer.proofs.lines.write_segments.Tie as tie
 
