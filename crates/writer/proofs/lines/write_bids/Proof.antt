@@ -70,11 +70,9 @@ loop-again c =
     let l = c .before .before .before .before .before in
     let a = l .before .before .before .args in
     let b = a .t3 in
-    let at = l .before .loop in (
-      omega arith,
-      w .kept .0 ∙ at .inv .1,
-      wrote-next (a .out .now) (a .at) bidLine (b .bids) (at .i) (b .count) noBid (at .out) (at .next) (w .last .0) (w .result) (l .loop-test .taken) (held (l .before)) (room (l .before)) (at .inv .2) (w .ensures),
-    )
+    let at = l .before .loop in
+    let next = wrote-next (a .out .now) (a .at) bidLine (b .bids) (at .i) (b .count) noBid (at .out) (at .next) (w .last .0) (w .result) in
+    (omega arith, w .kept .0 ∙ at .inv .1, next (l .loop-test .taken) (held (l .before)) (room (l .before)) (at .inv .2) (w .ensures))
 
 same-length : tie.Need-same-length Inv-loop μ-loop
 same-length c = c .before .loop .inv .1
