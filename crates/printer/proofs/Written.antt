@@ -4,10 +4,12 @@ use native.Mathlib.Nat.{add-assoc}
 use native.Mathlib.Numerals.{add-one}
 use native.Mathlib.Omega.{arith}
 use mathlib.Core.List.{List, [], _∷_, _++_, append-assoc, append-nil}
-use mathlib.Core.Path.{_≡_, refl, sym, ap, ap₂, _∙_}
+use mathlib.Core.Path.{_≡_, refl, sym, ap, ap₂, _∙_, subst}
 use borrow.Rule.Slice.PartMut.{putMid, midOf, postOf}
-use lib.ListN.{length, take, drop, set, length-append, length-take, length-drop, drop-of-length-le, take-append-drop}
+use lib.ListN.{length, getD, take, drop, set, length-append, length-take, length-drop, drop-of-length-le, take-append-drop}
 use lib.Seq.{take-length, take-all, take-at, drop-append-add, drop-drop, length-take-le, set-split, paste}
+use Rattle.lists.specs.Joined.{joined}
+use Rattle.lists.proofs.Joined.{joined-next, joined-room}
 use Rattle.printer.specs.Written.{written, Wrote}
 
 -- the output keeps its length
@@ -62,11 +64,28 @@ module _ (out : List ℕ) (at : ℕ) where
   wrote-byte b h = (refl, set-split out at b h ∙ ap (λ (n : ℕ). take at out ++ (b ∷ drop n out)) (sym (add-one at)))
 
   -- a text, and then another
-  pub wrote-then : (a : List ℕ) (mid : List ℕ) (next : ℕ) (b : List ℕ) (exit : List ℕ) (end : ℕ) → at + length a ≤ length out
+  pub wrote-then : (a mid : List ℕ) (next : ℕ) (b exit : List ℕ) (end : ℕ) → at + length a ≤ length out
       → Wrote out at a mid next → Wrote mid next b exit end → Wrote out at (a ++ b) exit end
   wrote-then a mid next b exit end room first second =
       let then = ap₂ (λ (d : List ℕ) (n : ℕ). written d n b) (first .1) (first .0) ∙ written-append out at a room b in
       (omega (arith, first .0, second .0, length-append a b), second .1 ∙ then)
+
+  -- what was written, said in other words
+  pub wrote-as : (a b exit : List ℕ) (end : ℕ) → a ≡ b → Wrote out at a exit end → Wrote out at b exit end
+  wrote-as a b exit end e w = subst (λ (s : List ℕ). Wrote out at s exit end) e w
+
+  -- the texts of the first i elements, and then that of the next
+  pub wrote-next : {A : Type 0} (f : A → List ℕ) (xs : List A) (i n : ℕ) (d : A) (mid : List ℕ) (next : ℕ) (exit : List ℕ) (end : ℕ)
+      → i < n
+      → n ≤ length xs
+      → at + length (joined f (take n xs)) ≤ length out
+      → Wrote out at (joined f (take i xs)) mid next
+      → Wrote mid next (f (getD xs i d)) exit end
+      → Wrote out at (joined f (take (i + 1) xs)) exit end
+  wrote-next f xs i n d mid next exit end h k room first second =
+      let fits = joined-room f xs i n d h k in
+      wrote-as (joined f (take i xs) ++ f (getD xs i d)) (joined f (take (i + 1) xs)) exit end (sym (joined-next f xs i d (omega arith)))
+      (wrote-then (joined f (take i xs)) mid next (f (getD xs i d)) exit end (omega arith) first second)
 
 -- The part from a place on, `&mut out[at..]`, written at its beginning: what the output is then.
 

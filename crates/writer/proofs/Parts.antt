@@ -1,18 +1,17 @@
 -- A line of the text from its parts, written one after the other. Assumes nothing.
-use Prim.Native.Nat.{ℕ, _+_, _≤_, _<_}
+use Prim.Native.Nat.{ℕ, _+_, _≤_}
 use native.Mathlib.Omega.{arith}
 use mathlib.Core.List.{List, _++_, append-assoc}
-use mathlib.Core.Path.{_≡_, sym, subst}
-use lib.ListN.{length, getD, take, length-append}
+use mathlib.Core.Path.{_≡_}
+use lib.ListN.{length, length-append}
 use Rattle.lists.specs.Joined.{joined}
-use Rattle.lists.proofs.Joined.{joined-next, joined-room}
 use Rattle.forms.specs.Bytes.{ascii}
 use Rattle.forms.specs.Digits.{digits, signedDigits}
 use Rattle.book.specs.declared.Segment.{Segment}
 use Rattle.book.specs.Entries.{BidEntries, BookEntries}
 use Rattle.booktext.specs.BookText.{segmentText, bidText, bookText}
 use Rattle.printer.specs.Written.{Wrote}
-use Rattle.printer.proofs.Written.{wrote-then}
+use Rattle.printer.proofs.Written.{wrote-as, wrote-then}
 use Rattle.writer.proofs.Sizes.{segment-size, bid-size, book-size}
 
 -- the parts of a segment, with the space before each number taken with it
@@ -20,10 +19,6 @@ regroup : (a b c d e f g h i : List ℕ) → (a ++ b) ++ (c ++ d) ++ (e ++ f) ++
 regroup a b c d e f g h i = simp append-assoc
 
 module _ (out : List ℕ) (at : ℕ) where
-  -- what was written, said in other words
-  pub wrote-as : (a b exit : List ℕ) (end : ℕ) → a ≡ b → Wrote out at a exit end → Wrote out at b exit end
-  wrote-as a b exit end e w = subst (λ (s : List ℕ). Wrote out at s exit end) e w
-
   pub wrote-segment : (s : Segment) (o₁ o₂ o₃ o₄ exit : List ℕ) (n₁ n₂ n₃ n₄ end : ℕ) → at + length (segmentText s) ≤ length out
       → Wrote out at (ascii " (seg " ++ digits (s .start .0)) o₁ n₁
       → Wrote o₁ n₁ (ascii " " ++ digits (s .end .0)) o₂ n₂
@@ -46,7 +41,7 @@ module _ (out : List ℕ) (at : ℕ) where
       let t₄ = wrote-then out at (p₁ ++ p₂ ++ p₃) o₃ n₃ p₄ o₄ n₄ (omega arith) t₃ w₄ in
       let t₅ = wrote-then out at (p₁ ++ p₂ ++ p₃ ++ p₄) o₄ n₄ (ascii ")") exit end (omega arith) t₄ w₅ in
       let same = regroup (ascii " (seg ") (digits (s .start .0)) (ascii " ") (digits (s .end .0)) (ascii " ") (digits (s .unit .0)) (ascii " ") (signedDigits (s .fixed .0)) (ascii ")") in
-      wrote-as (p₁ ++ p₂ ++ p₃ ++ p₄ ++ ascii ")") (segmentText s) exit end same t₅
+      wrote-as out at (p₁ ++ p₂ ++ p₃ ++ p₄ ++ ascii ")") (segmentText s) exit end same t₅
 
   pub wrote-bid : (b : BidEntries) (o₁ o₂ exit : List ℕ) (n₁ n₂ end : ℕ) → at + length (bidText b) ≤ length out
       → Wrote out at (ascii "(bid " ++ digits (b .bidder)) o₁ n₁
@@ -75,14 +70,3 @@ module _ (out : List ℕ) (at : ℕ) where
       let l₂ = length-append p₁ p₂ in
       let t₂ = wrote-then out at p₁ o₁ n₁ p₂ o₂ n₂ (omega arith) w₁ w₂ in
       wrote-then out at (p₁ ++ p₂) o₂ n₂ (joined bidText (b .bids)) exit end (omega arith) t₂ w₃
-
-  -- the texts of the first i elements, and then that of the next
-  pub wrote-next : {A : Type 0} (f : A → List ℕ) (xs : List A) (i n : ℕ) (d : A) (mid : List ℕ) (next : ℕ) (exit : List ℕ) (end : ℕ) → i < n → n ≤ length xs
-      → at + length (joined f (take n xs)) ≤ length out
-      → Wrote out at (joined f (take i xs)) mid next
-      → Wrote mid next (f (getD xs i d)) exit end
-      → Wrote out at (joined f (take (i + 1) xs)) exit end
-  wrote-next f xs i n d mid next exit end h k room first second =
-      let fits = joined-room f xs i n d h k in
-      wrote-as (joined f (take i xs) ++ f (getD xs i d)) (joined f (take (i + 1) xs)) exit end (sym (joined-next f xs i d (omega arith)))
-      (wrote-then out at (joined f (take i xs)) mid next (f (getD xs i d)) exit end (omega arith) first second)

@@ -1,11 +1,11 @@
 -- How long the text of a book is, part by part. Assumes nothing.
-use Prim.Native.Nat.{ℕ, _+_, _<_}
+use Prim.Native.Nat.{ℕ, _+_}
 use native.Mathlib.Omega.{arith}
 use mathlib.Core.List.{List}
-use mathlib.Core.Path.{_≡_, ap, _∙_}
-use lib.ListN.{length, getD, take, length-append}
+use mathlib.Core.Path.{_≡_}
+use lib.ListN.{length, take, length-append}
 use Rattle.lists.specs.Joined.{joined}
-use Rattle.lists.proofs.Joined.{joined-map, joined-next}
+use Rattle.lists.proofs.Joined.{joined-map}
 use Rattle.forms.specs.Digits.{digits, signedDigits}
 use Rattle.book.specs.declared.Segment.{Segment}
 use Rattle.book.specs.declared.Bid.{Bid}
@@ -26,14 +26,9 @@ pub book-size : (b : BookEntries) → length (bookText b) ≡ 10 + length (digit
 unfolding bookText
 book-size b = simp length-append (omega arith)
 
--- the line of a bid of the record, and the lines of the first n bids
+-- the line of a bid of a record, and the lines of all its bids
 abbrev pub bidLine : Bid → List ℕ
 bidLine b = bidText (bidEntries b)
 
 pub bid-lines : (b : Book) → joined bidText (bookEntries b .bids) ≡ joined bidLine (take (b .count) (b .bids))
 bid-lines b = joined-map bidText bidEntries (take (b .count) (b .bids))
-
--- a loop's sum of lengths goes on by the length of the next element's text
-pub joined-size : {A : Type 0} (f : A → List ℕ) (xs : List A) (i : ℕ) (d : A) → i < length xs
-    → length (joined f (take (i + 1) xs)) ≡ length (joined f (take i xs)) + length (f (getD xs i d))
-joined-size f xs i d h = ap length (joined-next f xs i d h) ∙ length-append (joined f (take i xs)) (f (getD xs i d))

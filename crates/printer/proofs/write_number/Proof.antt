@@ -34,7 +34,8 @@ returns c =
     let w = c .before .before .before .before .before .before .write-word in
     let a = c .before .before .before .before .before .before .before .before .before .before .args in
     let room : w .result ≤ length (w .last .0) = omega (arith, w .ensures .0, w .kept .0) in
-    wrote-then (a .out .now) (a .at) (a .w .now) (w .last .0) (w .result) (digits (a .n)) _ _ (omega arith) (w .ensures) (part-back (w .last .0) (w .result) (digits (a .n)) (d .last .0) (d .result) room (d .ensures))
+    let second = part-back (w .last .0) (w .result) (digits (a .n)) (d .last .0) (d .result) room (d .ensures) in
+    wrote-then (a .out .now) (a .at) (a .w .now) (w .last .0) (w .result) (digits (a .n)) _ _ (omega arith) (w .ensures) second
 
 pub write-number-spec : {M : Type 1} → statement M
 write-number-spec =

@@ -30,7 +30,7 @@ returns-2 c =
     let told = c .before .before in
     let check = told .before .before .check in
     let a = told .before .before .before .before .args in
-    too-short (a .book) (a .out .now) (check .result) (check .ensures) (told .enum-told2 .given .1) (size .result) (size .ensures) (c .if1 .taken)
+    too-short (a .book) (a .out .now) (check .result) (check .ensures) (told .enum-told2 .given .1) (size .result) (size .ensures) (omega (arith, c .if1 .taken))
 
 write-book-requires : tie.Need-write-book-requires
 write-book-requires c κs =

@@ -5,11 +5,12 @@ use borrow.Author.Needs.{needs}
 use lib.ListN.{length, take}
 use Rattle.lists.specs.Joined.{joined}
 use Rattle.lists.proofs.Slices.{length-held}
+use Rattle.lists.proofs.Joined.{joined-size}
 use Rattle.forms.specs.Digits.{digits}
 use Rattle.book.specs.Entries.{bidEntries}
 use Rattle.book.proofs.Records.{noSegment}
 use Rattle.booktext.specs.BookText.{segmentText}
-use Rattle.writer.proofs.Sizes.{bid-size, joined-size}
+use Rattle.writer.proofs.Sizes.{bid-size}
 use Rattle.writer.proofs.lengths.bid_length.Statement.{statement}
 use Rattle.writer.proofs.lengths.bid_length.Tie as tie
 

@@ -5,11 +5,12 @@ use borrow.Author.Needs.{needs}
 use lib.ListN.{length, getD, take}
 use Rattle.lists.specs.Joined.{joined}
 use Rattle.lists.proofs.Slices.{length-held}
+use Rattle.lists.proofs.Joined.{joined-size}
 use Rattle.forms.specs.Digits.{digits}
 use Rattle.book.specs.Entries.{bidEntries, bookEntries}
 use Rattle.book.proofs.Records.{noBid}
 use Rattle.book.proofs.Accepted.{AcceptedBid, few-bids, bid-at}
-use Rattle.writer.proofs.Sizes.{book-size, bidLine, bid-lines, joined-size}
+use Rattle.writer.proofs.Sizes.{book-size, bidLine, bid-lines}
 use Rattle.writer.proofs.lengths.book_length.Statement.{statement}
 use Rattle.writer.proofs.lengths.book_length.Tie as tie
 

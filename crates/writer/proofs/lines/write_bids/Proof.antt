@@ -10,9 +10,8 @@ use Rattle.book.specs.Entries.{bidEntries}
 use Rattle.book.proofs.Records.{noBid}
 use Rattle.book.proofs.Accepted.{AcceptedBid, few-bids, bid-at}
 use Rattle.printer.specs.Written.{Wrote}
-use Rattle.printer.proofs.Written.{wrote-none}
+use Rattle.printer.proofs.Written.{wrote-none, wrote-as, wrote-next}
 use Rattle.writer.proofs.Sizes.{bidLine, bid-lines}
-use Rattle.writer.proofs.Parts.{wrote-as, wrote-next}
 use Rattle.writer.proofs.lines.write_bids.Statement.{statement}
 use Rattle.writer.proofs.lines.write_bids.Tie as tie
 
@@ -71,11 +70,9 @@ loop-again c =
     let l = c .before .before .before .before .before in
     let a = l .before .before .before .args in
     let b = a .t3 in
-    let at = l .before .loop in (
-      omega arith,
-      w .kept .0 ∙ at .inv .1,
-      wrote-next (a .out .now) (a .at) bidLine (b .bids) (at .i) (b .count) noBid (at .out) (at .next) (w .last .0) (w .result) (l .loop-test .taken) (held (l .before)) (room (l .before)) (at .inv .2) (w .ensures),
-    )
+    let at = l .before .loop in
+    let next = wrote-next (a .out .now) (a .at) bidLine (b .bids) (at .i) (b .count) noBid (at .out) (at .next) (w .last .0) (w .result) in
+    (omega arith, w .kept .0 ∙ at .inv .1, next (l .loop-test .taken) (held (l .before)) (room (l .before)) (at .inv .2) (w .ensures))
 
 same-length : tie.Need-same-length Inv-loop μ-loop
 same-length c = c .before .loop .inv .1

@@ -8,8 +8,8 @@ use mir.Syntax.{w64}
 use mir.Val.{SFits}
 use Rattle.forms.specs.Bytes.{ascii}
 use Rattle.forms.specs.Digits.{digits, signedDigits}
+use Rattle.printer.proofs.Written.{wrote-as}
 use Rattle.writer.proofs.Signs.{negative-digits, plain-digits}
-use Rattle.writer.proofs.Parts.{wrote-as}
 use Rattle.writer.proofs.lines.write_fixed.Statement.{statement}
 use Rattle.writer.proofs.lines.write_fixed.Tie as tie
 
@@ -22,8 +22,8 @@ with-sign c =
     let t = c .before .before .before in
     negative-digits _ (fits (t .before)) (t .if1 .taken) ∙ ap (λ (n : ℕ). ascii "-" ++ digits n) (sym (c .magnitude .ensures))
 
-without : (c : tie.After-magnitude2) → signedDigits (c .before .before .before .before .before .before .before .args .fixed .0) ≡ digits (c .magnitude2 .result)
-without c =
+without-sign : (c : tie.After-magnitude2) → signedDigits (c .before .before .before .before .before .before .before .args .fixed .0) ≡ digits (c .magnitude2 .result)
+without-sign c =
     let t = c .before .before .before in
     plain-digits _ (fits (t .before)) (t .if1 .left) ∙ ap digits (sym (c .magnitude2 .ensures))
 
@@ -44,7 +44,8 @@ returns c =
     let m = c .before .before .before in
     let a = m .before .before .before .before .before .before .before .args in
     let w = c .before .before .write-number in
-    wrote-as (a .out .now) (a .at) (ascii " -" ++ digits (m .magnitude .result)) (ascii " " ++ signedDigits (a .fixed .0)) (w .last .0) (w .result) (ap (λ (l : List ℕ). ascii " " ++ l) (sym (with-sign m))) (w .ensures)
+    let same = ap (λ (l : List ℕ). ascii " " ++ l) (sym (with-sign m)) in
+    wrote-as (a .out .now) (a .at) (ascii " -" ++ digits (m .magnitude .result)) (ascii " " ++ signedDigits (a .fixed .0)) (w .last .0) (w .result) same (w .ensures)
 
 slice-aggregate-write-number-2 : tie.Need-slice-aggregate-write-number-2
 slice-aggregate-write-number-2 c = search needs
@@ -53,7 +54,7 @@ magnitude-requires-2 : tie.Need-magnitude-requires-2
 magnitude-requires-2 c κs = search needs
 
 write-number-requires-2 : tie.Need-write-number-requires-2
-write-number-requires-2 c κs = omega (arith, ap length (without c))
+write-number-requires-2 c κs = omega (arith, ap length (without-sign c))
 
 same-length-2 : tie.Need-same-length-2
 same-length-2 c = search needs
@@ -63,7 +64,8 @@ returns-2 c =
     let m = c .before .before .before in
     let a = m .before .before .before .before .before .before .before .args in
     let w = c .before .before .write-number2 in
-    wrote-as (a .out .now) (a .at) (ascii " " ++ digits (m .magnitude2 .result)) (ascii " " ++ signedDigits (a .fixed .0)) (w .last .0) (w .result) (ap (λ (l : List ℕ). ascii " " ++ l) (sym (without m))) (w .ensures)
+    let same = ap (λ (l : List ℕ). ascii " " ++ l) (sym (without-sign m)) in
+    wrote-as (a .out .now) (a .at) (ascii " " ++ digits (m .magnitude2 .result)) (ascii " " ++ signedDigits (a .fixed .0)) (w .last .0) (w .result) same (w .ensures)
 
 pub write-fixed-spec : {M : Type 1} → statement M
 write-fixed-spec =

@@ -18,7 +18,7 @@ write-number-requires-2 : tie.Need-write-number-requires-2
 write-number-requires-2 c κs =
     let w₁ = c .before .before .before .before in
     let s = w₁ .before .before .before .before in
-    omega (arith, segment-size (s .args .s), s .pre, w₁ .write-number .ensures .0, w₁ .write-number .kept .0)
+    omega (arith, segment-size (s .args .s), s .pre, w₁ .write-number)
 
 slice-aggregate-write-number-3 : tie.Need-slice-aggregate-write-number-3
 slice-aggregate-write-number-3 c = search needs
@@ -28,7 +28,7 @@ write-number-requires-3 c κs =
     let w₂ = c .before .before .before .before in
     let w₁ = w₂ .before .before .before .before .before in
     let s = w₁ .before .before .before .before in
-    omega (arith, segment-size (s .args .s), s .pre, w₁ .write-number .ensures .0, w₁ .write-number .kept .0, w₂ .write-number2 .ensures .0, w₂ .write-number2 .kept .0)
+    omega (arith, segment-size (s .args .s), s .pre, w₁ .write-number, w₂ .write-number2)
 
 write-fixed-requires : tie.Need-write-fixed-requires
 write-fixed-requires c κs =
@@ -36,7 +36,7 @@ write-fixed-requires c κs =
     let w₂ = w₃ .before .before .before .before .before in
     let w₁ = w₂ .before .before .before .before .before in
     let s = w₁ .before .before .before .before in
-    omega (arith, segment-size (s .args .s), s .pre, w₁ .write-number .ensures .0, w₁ .write-number .kept .0, w₂ .write-number2 .ensures .0, w₂ .write-number2 .kept .0, w₃ .write-number3 .ensures .0, w₃ .write-number3 .kept .0)
+    omega (arith, segment-size (s .args .s), s .pre, w₁ .write-number, w₂ .write-number2, w₃ .write-number3)
 
 slice-aggregate-write-word : tie.Need-slice-aggregate-write-word
 slice-aggregate-write-word c = search needs
@@ -48,7 +48,7 @@ write-word-requires c κs =
     let w₂ = w₃ .before .before .before .before .before in
     let w₁ = w₂ .before .before .before .before .before in
     let s = w₁ .before .before .before .before in
-    omega (arith, segment-size (s .args .s), s .pre, w₁ .write-number .ensures .0, w₁ .write-number .kept .0, w₂ .write-number2 .ensures .0, w₂ .write-number2 .kept .0, w₃ .write-number3 .ensures .0, w₃ .write-number3 .kept .0, w₄ .write-fixed .ensures .0, w₄ .write-fixed .kept .0)
+    omega (arith, segment-size (s .args .s), s .pre, w₁ .write-number, w₂ .write-number2, w₃ .write-number3, w₄ .write-fixed)
 
 same-length : tie.Need-same-length
 same-length c = search needs
@@ -66,7 +66,26 @@ returns c =
     let d = w₃ .write-number3 in
     let e = w₄ .write-fixed in
     let f = w₅ .write-word in
-    wrote-segment (s .args .out .now) (s .args .at) (s .args .s) (a .last .0) (b .last .0) (d .last .0) (e .last .0) (f .last .0) (a .result) (b .result) (d .result) (e .result) (f .result) (s .pre) (a .ensures) (b .ensures) (d .ensures) (e .ensures) (f .ensures)
+    wrote-segment
+    (s .args .out .now)
+    (s .args .at)
+    (s .args .s)
+    (a .last .0)
+    (b .last .0)
+    (d .last .0)
+    (e .last .0)
+    (f .last .0)
+    (a .result)
+    (b .result)
+    (d .result)
+    (e .result)
+    (f .result)
+    (s .pre)
+    (a .ensures)
+    (b .ensures)
+    (d .ensures)
+    (e .ensures)
+    (f .ensures)
 
 pub write-segment-spec : {M : Type 1} → statement M
 write-segment-spec =

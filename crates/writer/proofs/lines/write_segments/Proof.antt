@@ -9,8 +9,7 @@ use Rattle.lists.proofs.Joined.{joined-room}
 use Rattle.book.proofs.Records.{noSegment}
 use Rattle.booktext.specs.BookText.{segmentText}
 use Rattle.printer.specs.Written.{Wrote}
-use Rattle.printer.proofs.Written.{wrote-none}
-use Rattle.writer.proofs.Parts.{wrote-as, wrote-next}
+use Rattle.printer.proofs.Written.{wrote-none, wrote-as, wrote-next}
 use Rattle.writer.proofs.lines.write_segments.Statement.{statement}
 use Rattle.writer.proofs.lines.write_segments.Tie as tie
 
@@ -56,11 +55,10 @@ loop-again c =
     let l = c .before .before .before .before .before in
     let a = l .before .before .before .args in
     let b = a .t3 in
-    let at = l .before .loop in (
-      omega arith,
-      w .kept .0 ∙ at .inv .1,
-      wrote-next (a .out .now) (a .at) segmentText (b .segments) (at .i) (b .count) noSegment (at .out) (at .next) (w .last .0) (w .result) (l .loop-test .taken) (held l) (l .before .before .before .pre .1) (at .inv .2) (w .ensures),
-    )
+    let at = l .before .loop in
+    let room = l .before .before .before .pre .1 in
+    let next = wrote-next (a .out .now) (a .at) segmentText (b .segments) (at .i) (b .count) noSegment (at .out) (at .next) (w .last .0) (w .result) in
+    (omega arith, w .kept .0 ∙ at .inv .1, next (l .loop-test .taken) (held l) room (at .inv .2) (w .ensures))
 
 same-length : tie.Need-same-length Inv-loop μ-loop
 same-length c = c .before .loop .inv .1
