@@ -3,9 +3,19 @@ use book::RoomFigure;
 use money::Cents;
 use refusal::Verdict;
 use split::SplitPrice;
+use writer::BookWritten;
 
 pub fn text(t: &[u8]) {
     io::write_all(1, t);
+}
+
+// The first n bytes.
+pub fn first(t: &[u8], n: u64) {
+    let end = n as usize;
+    if t.len() < end {
+        return;
+    }
+    text(&t[..end]);
 }
 
 pub fn number(n: u64) {
@@ -60,5 +70,24 @@ pub fn room(name: &[u8], r: RoomFigure) {
     outcome(verdict);
     text(b", ");
     number(r.bytes);
+    text(b"\n");
+}
+
+// A text that was cut at a byte.
+pub fn cut(n: u64, verdict: Verdict) {
+    text(b"cut at ");
+    number(n);
+    text(b": ");
+    outcome(verdict);
+    text(b"\n");
+}
+
+pub fn written(name: &[u8], w: BookWritten) {
+    text(name);
+    text(b": ");
+    let verdict = w.verdict;
+    outcome(verdict);
+    text(b", ");
+    number(w.bytes);
     text(b"\n");
 }

@@ -1,0 +1,28 @@
+use native.Mathlib.Omega.{arith}
+use mathlib.Core.Path.{_≡_, sym}
+use lib.Seq.{length-take-le}
+use borrow.Author.Needs.{needs}
+use Rattle.cases.proofs.show.first.Statement.{statement}
+use Rattle.cases.proofs.show.first.Tie as tie
+use Rattle.cases.proofs.show.first.Reads as reads
+use Rattle.cases.proofs.show.first.Lts as lts
+use Rattle.cases.proofs.show.text.Reads as text-reads
+
+-- src/show.rt:16:9
+returns : tie.Need-returns
+returns c = search needs
+
+-- src/show.rt:18:10
+slice-aggregate-text : tie.Need-slice-aggregate-text
+slice-aggregate-text c = let a = c .before .before .before .args in sym (length-take-le (a .n) (a .t .now) (omega arith))
+
+-- src/show.rt:18:5
+text-requires : tie.Need-text-requires
+text-requires c κs = search needs
+
+-- src/show.rt:13:1
+returns-2 : tie.Need-returns-2
+returns-2 c = search needs
+
+pub first-spec : {M : Type 1} → statement M
+first-spec = tie.close (tie.spec returns slice-aggregate-text text-requires returns-2)
