@@ -3,13 +3,14 @@ use Prim.Native.Nat.{ℕ, _≤_, _<_}
 use native.Mathlib.Omega.{arith}
 use mathlib.Core.List.{List, [], _∷_, _++_, append-assoc, append-nil}
 use mathlib.Core.Path.{_≡_, refl, sym, ap, subst}
-use lib.IntN.{ℤ}
+use lib.IntN.{ℤ, natAbs}
 use lib.ListN.{length}
 use Rattle.lists.specs.All.{All}
 use Rattle.lists.specs.Joined.{joined}
 use Rattle.forms.specs.Bytes.{ascii}
 use Rattle.forms.specs.Digits.{digits, signedDigits}
 use Rattle.forms.specs.Shape.{Reading}
+use Rattle.forms.proofs.Digits.{few-digits, few-below}
 use Rattle.forms.proofs.Form.{Form, Next, any}
 use Rattle.forms.proofs.Word.{word}
 use Rattle.forms.proofs.Number.{number, Number, NoDigit}
@@ -22,7 +23,7 @@ use Rattle.forms.proofs.Whole.{reading}
 use Rattle.book.specs.declared.Segment.{Segment}
 use Rattle.book.specs.Entries.{BidEntries, BookEntries}
 use Rattle.booktext.specs.BookText.{segmentText, bidText, bookText}
-use Rattle.booktext.specs.Sayable.{SayableSegment, SayableBid, SayableBook}
+use Rattle.booktext.specs.WellFormed.{WellFormedSegment, WellFormedBid, WellFormedBook}
 
 abbrev pub plain : Form ℕ
 plain = number 0 from-0
@@ -75,17 +76,17 @@ toSegment x = record { start = record { 0 = x .1 .0 .0 }; end = record { 0 = x .
 abbrev pub fromSegment : Segment → SegmentParts
 fromSegment s = (tt, ((s .start .0, tt), ((s .end .0, tt), ((s .unit .0, tt), (s .fixed .0, tt)))))
 
-pub same-segment : Same segment-parts toSegment fromSegment SayableSegment segmentText
+pub same-segment : Same segment-parts toSegment fromSegment WellFormedSegment segmentText
 unfolding segmentText
 same-segment = record {
-  to-valid = λ s v. (tt, (((omega arith, v .start), tt), (((omega arith, v .end), tt), (((omega arith, v .unit), tt), (v .fixed, tt)))));
+  to-valid = λ s v. (tt, (((omega arith, few-below (s .start .0) (v .start)), tt), (((omega arith, few-below (s .end .0) (v .end)), tt), (((omega arith, few-below (s .unit .0) (v .unit)), tt), (few-below (natAbs (s .fixed .0)) (v .fixed), tt)))));
   back = λ s v. refl;
-  from-valid = λ x v. record { start = v .1 .0 .0 .1; end = v .1 .1 .0 .0 .1; unit = v .1 .1 .1 .0 .0 .1; fixed = v .1 .1 .1 .1 .0 };
+  from-valid = λ x v. record { start = few-digits _ (v .1 .0 .0 .1); end = few-digits _ (v .1 .1 .0 .0 .1); unit = few-digits _ (v .1 .1 .1 .0 .0 .1); fixed = few-digits _ (v .1 .1 .1 .1 .0) };
   same-text = λ x v. simp append-assoc;
 }
 
 abbrev pub segment : Form Segment
-segment = via segment-parts toSegment fromSegment SayableSegment segmentText same-segment
+segment = via segment-parts toSegment fromSegment WellFormedSegment segmentText same-segment
 
 pub segment-space : Headed 32 segment
 unfolding segmentText
@@ -125,17 +126,17 @@ toBid x = bidOf (x .1 .0) (x .1 .1 .0)
 abbrev pub fromBid : BidEntries → BidParts
 fromBid b = (tt, (b .bidder, (b .segments, tt)))
 
-pub same-bid : Same bid-parts toBid fromBid SayableBid bidText
+pub same-bid : Same bid-parts toBid fromBid WellFormedBid bidText
 unfolding bidText
 same-bid = record {
-  to-valid = λ b v. (tt, ((omega arith, v .bidder), ((omega (arith, v .count, v .some), v .segments), tt)));
+  to-valid = λ b v. (tt, ((omega arith, few-below (b .bidder) (v .bidder)), ((omega (arith, v .count, v .some), v .segments), tt)));
   back = λ b v. ap (λ (n : ℕ). record { bidder = b .bidder; count = n; segments = b .segments }) (sym (v .count));
-  from-valid = λ x v. record { bidder = v .1 .0 .1; count = refl; some = v .1 .1 .0 .0; segments = v .1 .1 .0 .1 };
+  from-valid = λ x v. record { bidder = few-digits _ (v .1 .0 .1); count = refl; some = v .1 .1 .0 .0; segments = v .1 .1 .0 .1 };
   same-text = λ x v. simp append-assoc;
 }
 
 abbrev pub bid : Form BidEntries
-bid = via bid-parts toBid fromBid SayableBid bidText same-bid
+bid = via bid-parts toBid fromBid WellFormedBid bidText same-bid
 
 pub bid-open : Headed 40 bid
 unfolding bidText
@@ -164,18 +165,18 @@ toBook x = bookOf (x .1 .0 .0) (x .1 .1)
 abbrev pub fromBook : BookEntries → BookParts
 fromBook b = (tt, ((b .demand, tt), b .bids))
 
-pub same-book : Same book-parts toBook fromBook SayableBook bookText
+pub same-book : Same book-parts toBook fromBook WellFormedBook bookText
 unfolding bookText
 same-book = record {
-  to-valid = λ b v. (tt, (((omega arith, v .demand), tt), (omega (arith, v .count, v .some), v .bids)));
+  to-valid = λ b v. (tt, (((omega arith, few-below (b .demand) (v .demand)), tt), (omega (arith, v .count, v .some), v .bids)));
   back = λ b v. ap (λ (n : ℕ). record { demand = b .demand; count = n; bids = b .bids }) (sym (v .count));
-  from-valid = λ x v. record { demand = v .1 .0 .0 .1; count = refl; some = v .1 .1 .0; bids = v .1 .1 .1 };
+  from-valid = λ x v. record { demand = few-digits _ (v .1 .0 .0 .1); count = refl; some = v .1 .1 .0; bids = v .1 .1 .1 };
   same-text = λ x v. simp append-assoc;
 }
 
 abbrev pub book : Form BookEntries
-book = via book-parts toBook fromBook SayableBook bookText same-book
+book = via book-parts toBook fromBook WellFormedBook bookText same-book
 
 -- every text has a reading
-pub book-reading : (t : List ℕ) → Reading SayableBook bookText t
+pub book-reading : (t : List ℕ) → Reading WellFormedBook bookText t
 book-reading t = reading book t

@@ -13,7 +13,7 @@ use Rattle.book.specs.Entries.{BidEntries, BookEntries, bidEntries, bookEntries
 use Rattle.book.specs.Rules.{bookVerdict}
 use Rattle.book.proofs.Accepted.{AcceptedBid, book-accepted}
 use Rattle.booktext.specs.Arrays.{SixSegments, Arrays}
-use Rattle.booktext.specs.Sayable.{SayableBid, SayableBook}
+use Rattle.booktext.specs.WellFormed.{WellFormedBid, WellFormedBook}
 use Rattle.booktext.specs.Record.{held, emptySegment, emptyBid, bidRecord, bookRecord}
 use Rattle.booktext.proofs.Bids.{all-accepted}
 
@@ -63,25 +63,25 @@ module _ {A : Type 0} where
 abbrev pub FewSegments : BidEntries → Type 0
 FewSegments b = b .count ≤ 6
 
-bid-back : (b : BidEntries) → SayableBid b × FewSegments b → bidEntries (bidRecord b) ≡ b
+bid-back : (b : BidEntries) → WellFormedBid b × FewSegments b → bidEntries (bidRecord b) ≡ b
 unfolding bidRecord
 bid-back b h =
     let same = take-count 6 (b .count) emptySegment (b .segments) (h .0 .count) (h .1) in
     ap (λ (ss : List Segment). record { bidder = b .bidder; count = b .count; segments = ss }) same
 
-module _ (b : BookEntries) (sayable : SayableBook b) where
+module _ (b : BookEntries) (well-formed : WellFormedBook b) where
   -- the bids within the record's count
   bids-of-record : b .count ≤ 8 → bookEntries (bookRecord b) .bids ≡ map bidEntries (map bidRecord (b .bids))
   unfolding bookRecord
   bids-of-record few =
       let records = map bidRecord (b .bids) in
-      ap (map bidEntries) (take-count 8 (b .count) emptyBid records (rw length-map (sayable .count)) few)
+      ap (map bidEntries) (take-count 8 (b .count) emptyBid records (rw length-map (well-formed .count)) few)
 
   -- a book for which a record has room
   pub entries-back : b .count ≤ 8 → All FewSegments (b .bids) → bookEntries (bookRecord b) ≡ b
   unfolding bookRecord
   entries-back few segments =
-      let each = all-from _ _ bid-back (b .bids) (all-both SayableBid FewSegments (b .bids) (sayable .bids) segments) in
+      let each = all-from _ _ bid-back (b .bids) (all-both WellFormedBid FewSegments (b .bids) (well-formed .bids) segments) in
       let same = bids-of-record few ∙ map-back bidRecord bidEntries (b .bids) each in
       ap (λ (bs : List BidEntries). record { demand = b .demand; count = b .count; bids = bs }) same
 

@@ -20,7 +20,7 @@ use Rattle.book.specs.Room.{roomOfBids}
 use Rattle.book.proofs.Accepted.{AcceptedBid, book-accepted}
 use Rattle.book.proofs.InRange.{in-range}
 use Rattle.booktext.specs.BookText.{segmentText, bidText, bookText}
-use Rattle.booktext.specs.Sayable.{SayableBid, SayableBook}
+use Rattle.booktext.specs.WellFormed.{WellFormedBid, WellFormedBook}
 use Rattle.booktext.proofs.Bids.{all-accepted}
 
 seven : (n : ℕ) → n ≤ 1000000 → length (digits n) ≤ 7
@@ -49,7 +49,7 @@ segment-short s e =
 abbrev RoomFor : BidEntries → Type 0
 RoomFor b = length (bidText b) ≤ 11 + 45 * b .count
 
-bid-short : (b : BidEntries) → SayableBid b × AcceptedBid b → RoomFor b
+bid-short : (b : BidEntries) → WellFormedBid b × AcceptedBid b → RoomFor b
 unfolding bidText
 bid-short b h =
     let each = all-from _ _ segment-short (b .segments) (all-tested segmentInRange (b .segments) (h .1 .ranges)) in
@@ -68,15 +68,15 @@ unfolding roomOfBids
 most-room [] h = omega arith
 most-room (b ∷ bs) h = omega (arith, h .0 .count-high, most-room bs (h .1))
 
-module _ (b : BookEntries) (sayable : SayableBook b) (accepted : bookVerdict b ≡ Accepted) where
+module _ (b : BookEntries) (well-formed : WellFormedBook b) (accepted : bookVerdict b ≡ Accepted) where
   pub room-bounds : length (bookText b) ≤ 17 + roomOfBids (b .bids)
   unfolding bookText
   room-bounds =
       let demand = seven (b .demand) (book-accepted b accepted .demand-high) in
-      let each = all-from _ RoomFor bid-short (b .bids) (all-both SayableBid AcceptedBid (b .bids) (sayable .bids) (all-accepted b accepted)) in
+      let each = all-from _ RoomFor bid-short (b .bids) (all-both WellFormedBid AcceptedBid (b .bids) (well-formed .bids) (all-accepted b accepted)) in
       simp length-append (omega (arith, bids-short (b .bids) each))
 
   pub text-short : length (bookText b) ≤ 2265
   text-short =
       let few = book-accepted b accepted .count-high in
-      omega (arith, room-bounds, most-room (b .bids) (all-accepted b accepted), sayable .count)
+      omega (arith, room-bounds, most-room (b .bids) (all-accepted b accepted), well-formed .count)

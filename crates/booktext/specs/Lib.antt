@@ -1,4 +1,4 @@
 pub mod BookText
-pub mod Sayable
+pub mod WellFormed
 pub mod Record
 pub mod Arrays

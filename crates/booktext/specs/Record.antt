@@ -1,4 +1,4 @@
--- The record that a text says: its counts, the entries for which the record has room, and zeros past the counts. A count above the room
+-- The record of a text: its counts, the entries for which the record has room, and zeros past the counts. A count above the room
 -- stays as it is, so that the rules for a record refuse it.
 use Prim.Native.Nat.{ℕ}
 use mathlib.Core.List.{List, _++_, map}

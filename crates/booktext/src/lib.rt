@@ -1,1 +1,1 @@
-// The bid book as text: what its text is, which texts there are, and what each says (specs/); the laws of that (proofs/). No code.
+// The bid book as text: what its text is, which texts there are, and the record of each (specs/); the laws of that (proofs/). No code.

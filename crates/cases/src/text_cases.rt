@@ -25,7 +25,7 @@ fn read(name: &[u8], text: &[u8]) {
     show::verdict(name, verdict);
 }
 
-// Reads a text and writes the book that it says.
+// Reads a text and writes its book.
 fn again(text: &[u8], out: &mut [u8]) {
     let r = reader::read(text);
     let book = r.book;

@@ -69,7 +69,7 @@ first = by-digits First
     (λ n h. record { byte = 48 + n; rest = []; is = digits-one n h; low = omega arith; high = omega arith })
     (λ n h f. record { byte = f .byte; rest = f .rest ++ digit (n % 10); is = digits-more n h ∙ ap (λ (l : List ℕ). l ++ digit (n % 10)) (f .is); low = f .low; high = f .high })
 
--- how many digits: at most k + 1 below 10 to the power k + 1
+-- how many digits: at most k + 1 exactly below 10 to the power k + 1
 pub length-below : (k n : ℕ) → n < 10 ^ suc k → length (digits n) ≤ suc k
 length-below zero n h = omega (arith, length-one n (omega arith))
 length-below (suc k) n h = side (length-below k (n / 10)) (ltb n 10) refl
@@ -77,3 +77,25 @@ length-below (suc k) n h = side (length-below k (n / 10)) (ltb n 10) refl
     side : (n / 10 < 10 ^ suc k → length (digits (n / 10)) ≤ suc k) → (x : Bool) → ltb n 10 ≡ x → length (digits n) ≤ suc (suc k)
     side ih true q = omega (arith, length-one n (ltb-true n 10 q))
     side ih false q = let l = ltb-false n 10 q in omega (arith, length-more n l, ih (omega arith))
+
+some-digit : (n : ℕ) → 1 ≤ length (digits n)
+some-digit n = omega (arith, ap length (first n .is))
+
+pub below-length : (k n : ℕ) → length (digits n) ≤ suc k → n < 10 ^ suc k
+below-length zero n h = side (ltb n 10) refl
+  where
+    side : (x : Bool) → ltb n 10 ≡ x → n < 10 ^ 1
+    side true q = omega (arith, ltb-true n 10 q)
+    side false q = let l = ltb-false n 10 q in absurd (omega (arith, length-more n l, some-digit (n / 10)))
+below-length (suc k) n h = side (below-length k) (ltb n 10) refl
+  where
+    side : ((m : ℕ) → length (digits m) ≤ suc k → m < 10 ^ suc k) → (x : Bool) → ltb n 10 ≡ x → n < 10 ^ suc (suc k)
+    side ih true q = omega (arith, ltb-true n 10 q, ih 0 (omega (arith, length-one 0 (omega arith))))
+    side ih false q = let l = ltb-false n 10 q in omega (arith, ih (n / 10) (omega (arith, length-more n l)))
+
+-- thirteen digits
+pub few-digits : (n : ℕ) → n < 10000000000000 → length (digits n) ≤ 13
+few-digits n h = length-below 12 n h
+
+pub few-below : (n : ℕ) → length (digits n) ≤ 13 → n < 10000000000000
+few-below n h = below-length 12 n h

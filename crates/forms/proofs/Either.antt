@@ -103,7 +103,7 @@ module _ {A B : Type 0} (x : ℕ) (p : Form A) (q : Form B) where
     right-viable : (t : List ℕ) (n : ℕ) → right (q .parse t) ≡ stopped n → (n ≤ length t) × Begins either-valid either-text (take n t)
     right-viable t n e =
         let Q = q .viable t n (right-stopped t n e) in
-        (Q .0, record { value = inr (Q .1 .value); sayable = Q .1 .sayable; more = Q .1 .more; goes-on = Q .1 .goes-on })
+        (Q .0, record { value = inr (Q .1 .value); well-formed = Q .1 .well-formed; more = Q .1 .more; goes-on = Q .1 .goes-on })
 
     pub either-viable : (t : List ℕ) (n : ℕ) → either-parse t ≡ stopped n → (n ≤ length t) × Begins either-valid either-text (take n t)
     either-viable [] n e = right-viable [] n e
@@ -118,7 +118,7 @@ module _ {A B : Type 0} (x : ℕ) (p : Form A) (q : Form B) where
               omega (arith, P .0),
               record {
                 value = inl (P .1 .value);
-                sayable = P .1 .sayable;
+                well-formed = P .1 .well-formed;
                 more = P .1 .more;
                 goes-on = ap₂ (λ (c : ℕ) (u : List ℕ). c ∷ u) (sym (eqb-true b x i)) (P .1 .goes-on) ∙ ap (λ (j : ℕ). take j (b ∷ t) ++ P .1 .more) (sym z);
               },

@@ -40,7 +40,7 @@ pub record Form (A : Type 0) : Type 1 where
 -- every text begins with nothing
 pub begins-none : {A : Type 0} {Valid : A → Type 0} {text : A → List ℕ} (a : A) → Valid a → (t : List ℕ) (n : ℕ) → n ≡ 0
     → (n ≤ length t) × Begins Valid text (take n t)
-begins-none {text = text} a v t n e = (omega arith, record { value = a; sayable = v; more = text a; goes-on = ap (λ (k : ℕ). take k t ++ text a) (sym e) })
+begins-none {text = text} a v t n e = (omega arith, record { value = a; well-formed = v; more = text a; goes-on = ap (λ (k : ℕ). take k t ++ text a) (sym e) })
 
 pub any : (r : List ℕ) → Next (λ b. Unit {0}) r
 any [] = tt

@@ -201,7 +201,7 @@ module _ {A : Type 0} (x : ℕ) (p : Form A) where
               omega (arith, m .2, Q .0, length-past (b ∷ t) (p .text a) u w),
               record {
                 value = a ∷ Q .1 .value;
-                sayable = (v, Q .1 .sayable);
+                well-formed = (v, Q .1 .well-formed);
                 more = Q .1 .more;
                 goes-on =
                     ap (λ (z : List ℕ). p .text a ++ z) (Q .1 .goes-on)
@@ -212,7 +212,7 @@ module _ {A : Type 0} (x : ℕ) (p : Form A) where
         go ih (broken m q i) =
             let z = same-place (sym (with-item k b t (stopped m) q i) ∙ e) in
             let P = p .viable (b ∷ t) n (i ∙ ap (λ (y : ℕ). stopped y) (sym z)) in
-            (P .0, record { value = P .1 .value ∷ []; sayable = (P .1 .sayable, tt); more = P .1 .more; goes-on = append-nil (p .text (P .1 .value)) ∙ P .1 .goes-on })
+            (P .0, record { value = P .1 .value ∷ []; well-formed = (P .1 .well-formed, tt); more = P .1 .more; goes-on = append-nil (p .text (P .1 .value)) ∙ P .1 .goes-on })
 
     pub stable : (k m : ℕ) (t : List ℕ) (n : ℕ) (s : List ℕ) → length t ≤ k → length (take (suc n) t ++ s) ≤ m → many-within k t ≡ stopped n → n < length t
         → many-within m (take (suc n) t ++ s) ≡ stopped n

@@ -72,7 +72,7 @@ module _ {A B : Type 0} (p : Form A) (q : Form B) where
             omega (arith, m .2, Q .0, length-past t (p .text a) u (P .1)),
             record {
               value = (a, Q .1 .value);
-              sayable = (P .0, Q .1 .sayable);
+              well-formed = (P .0, Q .1 .well-formed);
               more = Q .1 .more;
               goes-on =
                   ap (λ (z : List ℕ). p .text a ++ z) (Q .1 .goes-on)
@@ -85,7 +85,7 @@ module _ {A B : Type 0} (p : Form A) (q : Form B) where
             P .0,
             record {
               value = (P .1 .value, q .some);
-              sayable = (P .1 .sayable, q .some-valid);
+              well-formed = (P .1 .well-formed, q .some-valid);
               more = P .1 .more ++ q .text (q .some);
               goes-on = ap (λ (z : List ℕ). z ++ q .text (q .some)) (P .1 .goes-on) ∙ append-assoc (take n t) (P .1 .more) (q .text (q .some));
             },

@@ -48,7 +48,7 @@ module _ {A B : Type 0} (p : Form A) (f : A → B) (g : B → A) (Valid : B → 
   via-viable t n e =
       let P = p .viable t n (via-stopped t n e) in
       let b = P .1 in
-      (P .0, record { value = f (b .value); sayable = same .from-valid (b .value) (b .sayable); more = b .more; goes-on = same .same-text (b .value) (b .sayable) ∙ b .goes-on })
+      (P .0, record { value = f (b .value); well-formed = same .from-valid (b .value) (b .well-formed); more = b .more; goes-on = same .same-text (b .value) (b .well-formed) ∙ b .goes-on })
 
   pub via-stable : (t : List ℕ) (n : ℕ) (s : List ℕ) → via-parse t ≡ stopped n → n < length t → via-parse (take (suc n) t ++ s) ≡ stopped n
   via-stable t n s e h =

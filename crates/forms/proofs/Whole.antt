@@ -8,7 +8,7 @@ use borrow.Author.Tests.{leb-true, leb-false}
 use lib.Dec.{leb}
 use lib.ListN.{length, take, drop, length-append, take-append-drop}
 use lib.Seq.{take-take, take-append-add, take-append-seam}
-use Rattle.forms.specs.Shape.{TextOf, Begins, Longest, Reading, says, stops, answer}
+use Rattle.forms.specs.Shape.{TextOf, Begins, Longest, Reading, of-shape, not-of-shape, answer}
 use Rattle.forms.proofs.Parse.{Parse, parsed, stopped, not-both, same-value, same-rest}
 use Rattle.forms.proofs.Form.{Form}
 
@@ -21,13 +21,13 @@ module _ {A : Type 0} (p : Form A) where
   text-parsed a v = ap (p .parse) (sym (append-nil (p .text a))) ∙ p .complete a [] v tt
 
   pub parsed-text : (t : List ℕ) (a : A) → p .parse t ≡ parsed a [] → TextOf (p .Valid) (p .text) t a
-  parsed-text t a e = let s = p .sound t a [] e in record { sayable = s .0; is = s .1 ∙ append-nil (p .text a) }
+  parsed-text t a e = let s = p .sound t a [] e in record { well-formed = s .0; is = s .1 ∙ append-nil (p .text a) }
 
   -- a beginning of a beginning
   shorter : (t : List ℕ) (m n : ℕ) → m ≤ n → Begins (p .Valid) (p .text) (take n t) → Begins (p .Valid) (p .text) (take m t)
   shorter t m n h b = record {
     value = b .value;
-    sayable = b .sayable;
+    well-formed = b .well-formed;
     more = drop m (take n t) ++ b .more;
     goes-on =
         b .goes-on
@@ -49,10 +49,10 @@ module _ {A : Type 0} (p : Form A) where
     pub stopped-longest : Longest (p .Valid) (p .text) t n
     stopped-longest =
         let v = p .viable t n e in
-        one-more t n (v .0) (v .1) (λ h b. not-both (sym (text-parsed (b .value) (b .sayable)) ∙ ap (p .parse) (b .goes-on) ∙ p .stable t n (b .more) e h))
+        one-more t n (v .0) (v .1) (λ h b. not-both (sym (text-parsed (b .value) (b .well-formed)) ∙ ap (p .parse) (b .goes-on) ∙ p .stable t n (b .more) e h))
 
     pub stopped-none : (a : A) → TextOf (p .Valid) (p .text) t a → ⊥
-    stopped-none a it = not-both (sym (text-parsed a (it .sayable)) ∙ ap (p .parse) (sym (it .is)) ∙ e)
+    stopped-none a it = not-both (sym (text-parsed a (it .well-formed)) ∙ ap (p .parse) (sym (it .is)) ∙ e)
 
   -- where it ends before the text does
   module _ (t : List ℕ) (a : A) (c : ℕ) (r : List ℕ) (e : p .parse t ≡ parsed a (c ∷ r)) where
@@ -66,7 +66,7 @@ module _ {A : Type 0} (p : Form A) where
         let one : suc n ≡ n + 1 = omega arith in
         let front : take (suc n) t ≡ p .text a ++ c ∷ [] = ap (λ (k : ℕ). take k t) one ∙ ap (take (n + 1)) whole ∙ take-append-add (p .text a) (c ∷ r) 1 in
         let joined : p .text (b .value) ≡ p .text a ++ c ∷ b .more = b .goes-on ∙ ap (λ (s : List ℕ). s ++ b .more) front ∙ append-assoc (p .text a) (c ∷ []) (b .more) in
-        let both = sym (text-parsed (b .value) (b .sayable)) ∙ ap (p .parse) joined ∙ p .ahead t a (c ∷ r) (c ∷ b .more) e refl in
+        let both = sym (text-parsed (b .value) (b .well-formed)) ∙ ap (p .parse) joined ∙ p .ahead t a (c ∷ r) (c ∷ b .more) e refl in
         omega (arith, ap length (same-rest both))
 
     pub ended-longest : Longest (p .Valid) (p .text) t (length (p .text a))
@@ -74,32 +74,32 @@ module _ {A : Type 0} (p : Form A) where
         let n = length (p .text a) in
         let l : length t ≡ n + length (c ∷ r) = ap length whole ∙ length-append (p .text a) (c ∷ r) in
         one-more t n (omega arith)
-        (record { value = a; sayable = p .sound t a (c ∷ r) e .0; more = []; goes-on = sym (append-nil (p .text a)) ∙ ap (λ (s : List ℕ). s ++ []) (sym (ap (take n) whole ∙ take-append-seam (p .text a) (c ∷ r))) })
+        (record { value = a; well-formed = p .sound t a (c ∷ r) e .0; more = []; goes-on = sym (append-nil (p .text a)) ∙ ap (λ (s : List ℕ). s ++ []) (sym (ap (take n) whole ∙ take-append-seam (p .text a) (c ∷ r))) })
         (λ h b. other b)
 
     pub ended-none : (b : A) → TextOf (p .Valid) (p .text) t b → ⊥
-    ended-none b it = let f = sym (text-parsed b (it .sayable)) ∙ ap (p .parse) (sym (it .is)) ∙ e in omega (arith, ap length (same-rest f))
+    ended-none b it = let f = sym (text-parsed b (it .well-formed)) ∙ ap (p .parse) (sym (it .is)) ∙ e in omega (arith, ap length (same-rest f))
 
   -- every text has a reading
   pub reading : (t : List ℕ) → Whole t
   reading t = go (p .parse t) refl
     where
       go : (y : Parse A) → p .parse t ≡ y → Whole t
-      go (parsed a []) e = says a (parsed-text t a e)
-      go (parsed a (c ∷ r)) e = stops (length (p .text a)) (ended-none t a c r e) (ended-longest t a c r e)
-      go (stopped n) e = stops n (stopped-none t n e) (stopped-longest t n e)
+      go (parsed a []) e = of-shape a (parsed-text t a e)
+      go (parsed a (c ∷ r)) e = not-of-shape (length (p .text a)) (ended-none t a c r e) (ended-longest t a c r e)
+      go (stopped n) e = not-of-shape n (stopped-none t n e) (stopped-longest t n e)
 
   -- and any two give the same answer
   module _ {C : Type 0} (f : A → C) (g : ℕ → C) (t : List ℕ) where
-    pub answer-said : (a : A) → TextOf (p .Valid) (p .text) t a → (x : Whole t) → answer (p .Valid) (p .text) f g x ≡ f a
+    pub answer-whole : (a : A) → TextOf (p .Valid) (p .text) t a → (x : Whole t) → answer (p .Valid) (p .text) f g x ≡ f a
     unfolding answer
-    answer-said a it (says b is) = ap f (same-value (sym (text-parsed b (is .sayable)) ∙ ap (p .parse) (sym (is .is) ∙ it .is) ∙ text-parsed a (it .sayable)))
-    answer-said a it (stops n none is) = absurd (none a it)
+    answer-whole a it (of-shape b is) = ap f (same-value (sym (text-parsed b (is .well-formed)) ∙ ap (p .parse) (sym (is .is) ∙ it .is) ∙ text-parsed a (it .well-formed)))
+    answer-whole a it (not-of-shape n none is) = absurd (none a it)
 
     pub answer-stopped : (n : ℕ) → ((a : A) → TextOf (p .Valid) (p .text) t a → ⊥) → Longest (p .Valid) (p .text) t n → (x : Whole t) → answer (p .Valid) (p .text) f g x ≡ g n
     unfolding answer
-    answer-stopped n none it (says b is) = absurd (none b is)
-    answer-stopped n none it (stops m no-text is) =
+    answer-stopped n none it (of-shape b is) = absurd (none b is)
+    answer-stopped n none it (not-of-shape m no-text is) =
         let a = it .longest m (is .within) (is .begins) in
         let b = is .longest n (it .within) (it .begins) in
         let z : m ≡ n = omega arith in
@@ -107,5 +107,5 @@ module _ {A : Type 0} (p : Form A) where
 
     pub one-answer : (x y : Whole t) → answer (p .Valid) (p .text) f g x ≡ answer (p .Valid) (p .text) f g y
     unfolding answer
-    one-answer x (says a it) = answer-said a it x
-    one-answer x (stops n none it) = answer-stopped n none it x
+    one-answer x (of-shape a it) = answer-whole a it x
+    one-answer x (not-of-shape n none it) = answer-stopped n none it x

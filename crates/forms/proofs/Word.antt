@@ -81,6 +81,6 @@ word w = record {
   complete = λ a r v h. word-complete w r;
   sound = λ t a r e. (tt, word-sound w t r a e);
   ahead = λ t a r s e h. word-complete w s;
-  viable = λ t n e. let l = word-viable w t n e in (l .0, record { value = tt; sayable = tt; more = l .1 .0; goes-on = l .1 .1 });
+  viable = λ t n e. let l = word-viable w t n e in (l .0, record { value = tt; well-formed = tt; more = l .1 .0; goes-on = l .1 .1 });
   stable = word-stable w;
 }

@@ -1,19 +1,19 @@
--- Texts of a shape. Which texts there are is said by the values that can be said, and by the text of each.
+-- Texts of a shape: the texts of well-formed values.
 use Prim.Native.Nat.{ℕ, _≤_}
 use mathlib.Core.List.{List, _++_}
 use mathlib.Core.Path.{_≡_}
 use lib.ListN.{length, take}
 
-module _ {A : Type 0} (Sayable : A → Type 0) (text : A → List ℕ) where
+module _ {A : Type 0} (WellFormed : A → Type 0) (text : A → List ℕ) where
   -- t is the text of a
   pub record TextOf (t : List ℕ) (a : A) : Type 0 where
-    pub sayable : Sayable a
+    pub well-formed : WellFormed a
     pub is : t ≡ text a
 
   -- some text of the shape begins with s
   pub record Begins (s : List ℕ) : Type 0 where
     pub value : A
-    pub sayable : Sayable value
+    pub well-formed : WellFormed value
     pub more : List ℕ
     pub goes-on : text value ≡ s ++ more
 
@@ -23,12 +23,13 @@ module _ {A : Type 0} (Sayable : A → Type 0) (text : A → List ℕ) where
     pub begins : Begins (take n t)
     pub longest : (m : ℕ) → m ≤ length t → Begins (take m t) → m ≤ n
 
-  -- What a text is: the text of a value, or of none, and then with the place.
+  -- What a text is: the text of a value, or of none, and then with the place. Every text has a reading (forms/proofs/Whole.antt: `reading`),
+  -- and any two give the same answer (`one-answer`).
   pub data Reading (t : List ℕ) : Type 0 where
-    says : (a : A) → TextOf t a → Reading t
-    stops : (n : ℕ) → ((a : A) → TextOf t a → ⊥) → Longest t n → Reading t
+    of-shape : (a : A) → TextOf t a → Reading t
+    not-of-shape : (n : ℕ) → ((a : A) → TextOf t a → ⊥) → Longest t n → Reading t
 
   -- what is answered: by the value, or by the place
   unfoldable pub answer : {C : Type 0} {t : List ℕ} → (A → C) → (ℕ → C) → Reading t → C
-  answer f g (says a it) = f a
-  answer f g (stops n none it) = g n
+  answer f g (of-shape a it) = f a
+  answer f g (not-of-shape n none it) = g n

@@ -13,13 +13,13 @@ use Rattle.forms.proofs.Place.{reads-both, reads-via}
 use Rattle.book.specs.declared.Segment.{Segment}
 use Rattle.book.specs.Entries.{BidEntries}
 use Rattle.booktext.specs.BookText.{segmentText, bidText, bookText}
-use Rattle.booktext.specs.Sayable.{SayableSegment, SayableBid, SayableBook}
+use Rattle.booktext.specs.WellFormed.{WellFormedSegment, WellFormedBid, WellFormedBook}
 use Rattle.booktext.proofs.BookForm.{plain, field, number-space, number-line, signed-close, after-word, after-field, fixed-close, Prices, prices, end-prices, start-end-prices, segment-parts, toSegment, fromSegment, same-segment, segment, segments, segments-close, segments-line, number-segments, bidder-segments, bid-parts, bidOf, toBid, fromBid, same-bid, bid, bids, demand-bids, book-parts, bookOf, toBook, fromBook, same-book, book}
 use Rattle.scanner.specs.declared.Cursor.{Cursor}
 use Rattle.scanner.specs.Scans.{Scans, ScansField, ScansNumber}
 
 module _ (t : List ℕ) where
-  -- one after the other, and said of another value
+  -- one after the other, and parsed of another value
   then : {A B : Type 0} (p : Form A) (q : Form B) (follows : Follows p q) (from : Cursor) (a : A) (mid : Cursor) (b : B) (next : Cursor) → Scans p t from a mid → Scans q t mid b next
       → Scans (pair p q follows) t from (a, b) next
   then p q follows from a mid b next x y = reads-both p q follows t (from .at) (from .stopped) a (mid .at) (mid .stopped) b (next .at) (next .stopped) x y
@@ -40,7 +40,7 @@ module _ (t : List ℕ) where
       let x1 = then f end-prices (after-field (ascii " ") number-space end-prices) n0 (start, tt) n1 ((end, tt), ((unit, tt), (fixed, tt))) next (s1 number-space) x2 in
       let parts : (ℕ × Unit {0}) × ((ℕ × Unit {0}) × Prices) = ((start, tt), ((end, tt), ((unit, tt), (fixed, tt)))) in
       let x0 = then (word (ascii " (seg ")) start-end-prices (after-word (ascii " (seg ") start-end-prices) from tt n0 parts next s0 x1 in
-      reads-via segment-parts toSegment fromSegment SayableSegment segmentText same-segment t (from .at) (from .stopped) (tt, parts) (next .at) (next .stopped) x0
+      reads-via segment-parts toSegment fromSegment WellFormedSegment segmentText same-segment t (from .at) (from .stopped) (tt, parts) (next .at) (next .stopped) x0
 
   pub bid-scanned : (from n0 : Cursor) (bidder : ℕ) (n1 : Cursor) (xs : List Segment) (n2 next : Cursor)
       → Scans (word (ascii "(bid ")) t from tt n0
@@ -52,7 +52,7 @@ module _ (t : List ℕ) where
       let x2 = then segments (word (ascii ")\n")) segments-close n1 xs n2 tt next s2 s3 in
       let x1 = then plain segments-line number-segments n0 bidder n1 (xs, tt) next s1 x2 in
       let x0 = then (word (ascii "(bid ")) bidder-segments (after-word (ascii "(bid ") bidder-segments) from tt n0 (bidder, (xs, tt)) next s0 x1 in
-      reads-via bid-parts toBid fromBid SayableBid bidText same-bid t (from .at) (from .stopped) (tt, (bidder, (xs, tt))) (next .at) (next .stopped) x0
+      reads-via bid-parts toBid fromBid WellFormedBid bidText same-bid t (from .at) (from .stopped) (tt, (bidder, (xs, tt))) (next .at) (next .stopped) x0
 
   pub book-scanned : (from n0 : Cursor) (demand : ℕ) (n1 : Cursor) (xs : List BidEntries) (next : Cursor)
       → Scans (word (ascii "(demand ")) t from tt n0
@@ -62,4 +62,4 @@ module _ (t : List ℕ) where
   book-scanned from n0 demand n1 xs next s0 s1 s2 =
       let x1 = then (field (ascii ")\n") number-line) bids (after-field (ascii ")\n") number-line bids) n0 (demand, tt) n1 xs next (s1 number-line) s2 in
       let x0 = then (word (ascii "(demand ")) demand-bids (after-word (ascii "(demand ") demand-bids) from tt n0 ((demand, tt), xs) next s0 x1 in
-      reads-via book-parts toBook fromBook SayableBook bookText same-book t (from .at) (from .stopped) (tt, ((demand, tt), xs)) (next .at) (next .stopped) x0
+      reads-via book-parts toBook fromBook WellFormedBook bookText same-book t (from .at) (from .stopped) (tt, ((demand, tt), xs)) (next .at) (next .stopped) x0

@@ -1,4 +1,4 @@
--- A record with an entry more: stored where there is room, and counted.
+-- For the contracts of the reader's private functions: a record with an entry more, stored where there is room, and counted.
 use Prim.Native.Nat.{ℕ, _+_}
 use mathlib.Core.Bool.{cond}
 use mathlib.Core.List.{List}

@@ -1,3 +1,3 @@
 pub mod Reading
 pub mod Adding
-pub mod Saying
+pub mod Parses

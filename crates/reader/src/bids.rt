@@ -2,38 +2,38 @@
 ghost use mathlib.Core.Path.{_≡_};
 ghost use Prim.Native.Nat.{_≤_};
 ghost use lib.ListN.{length};
-ghost use Rattle.reader.specs.Saying.{SaysBid, SaysBids, SaysBook};
+ghost use Rattle.reader.specs.Parses.{ParsesBid, ParsesBids, ParsesBook};
 use crate::records;
 use crate::segments;
-use crate::segments::SaidBid;
+use crate::segments::ParsedBid;
 use book::Book;
 use money::Blanks;
 use scanner::Cursor;
 
-pub struct SaidBook {
+pub struct ParsedBook {
     pub book: Book,
     pub next: Cursor,
 }
 
-fn bid(text: &[u8], from: Cursor) -> SaidBid
+fn bid(text: &[u8], from: Cursor) -> ParsedBid
     requires { ⌜ from .at ≤ length (now text) ⌝ }
-    ensures { λ r. ⌜ SaysBid (now (text .entry)) from (r .bid) (r .next) ⌝ }
+    ensures { λ r. ⌜ ParsesBid (now (text .entry)) from (r .bid) (r .next) ⌝ }
     ensures { λ r. ⌜ r .next .at ≤ length (now (text .entry)) ⌝ }
 {
     let open = scanner::word(text, from, b"(bid ");
     let bidder = scanner::number(text, open, 0);
     let after_bidder = bidder.next;
-    let said = segments::segments(text, after_bidder, bidder.value);
-    let bid = said.bid;
-    let after_segments = said.next;
+    let parsed = segments::segments(text, after_bidder, bidder.value);
+    let bid = parsed.bid;
+    let after_segments = parsed.next;
     let next = scanner::word(text, after_segments, b")\n");
-    SaidBid { bid, next }
+    ParsedBid { bid, next }
 }
 
 // One or more bids, kept in a record with the demand.
-fn bids(text: &[u8], from: Cursor, demand: u64) -> SaidBook
+fn bids(text: &[u8], from: Cursor, demand: u64) -> ParsedBook
     requires { ⌜ from .at ≤ length (now text) ⌝ }
-    ensures { λ r. ⌜ SaysBids (now (text .entry)) from demand (r .book) (r .next) ⌝ }
+    ensures { λ r. ⌜ ParsesBids (now (text .entry)) from demand (r .book) (r .next) ⌝ }
 {
     let first = bid(text, from);
     let mut book = records::empty_book();
@@ -43,17 +43,17 @@ fn bids(text: &[u8], from: Cursor, demand: u64) -> SaidBook
     book = records::with_bid(book, b);
     let mut next = first.next;
     while scanner::begins(text, next, b'(') {
-        let said = bid(text, next);
-        let b = said.bid;
+        let parsed = bid(text, next);
+        let b = parsed.bid;
         book = records::with_bid(book, b);
-        next = said.next;
+        next = parsed.next;
     }
-    SaidBook { book, next }
+    ParsedBook { book, next }
 }
 
 // The whole book, from the text's first byte on.
-pub fn book(text: &[u8]) -> SaidBook
-    ensures { λ r. ⌜ SaysBook (now (text .entry)) (r .book) (r .next) ⌝ }
+pub fn book(text: &[u8]) -> ParsedBook
+    ensures { λ r. ⌜ ParsesBook (now (text .entry)) (r .book) (r .next) ⌝ }
 {
     let open = scanner::word(
         text,

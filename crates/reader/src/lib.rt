@@ -1,6 +1,6 @@
 // Reading a bid book from its text.
 ghost use mathlib.Core.Path.{_≡_};
-ghost use Rattle.reader.specs.Reading.{readOf, refusedBook};
+ghost use Rattle.reader.specs.Reading.{readOf, refusedAnswer};
 
 // The parts of a text. The modules are private: what is pub in them serves this crate alone.
 mod bids;
@@ -11,14 +11,14 @@ use book::Book;
 use refusal::Rule;
 use refusal::Verdict;
 
-// The book that a text says, or all zeros beside a refusal.
+// The book of a text, or all zeros beside a refusal.
 pub struct BookRead {
     pub verdict: Verdict,
     pub book: Book,
 }
 
 fn refused(rule: Rule, place: u64) -> BookRead
-    ensures { λ r. ⌜ r ≡ refusedBook rule place ⌝ }
+    ensures { λ r. ⌜ r ≡ refusedAnswer rule place ⌝ }
 {
     BookRead {
         verdict: Verdict::Refused(rule, place),
@@ -33,15 +33,15 @@ pub fn read(text: &[u8]) -> BookRead
     if 4_096 < text.len() {
         return refused(Rule::TextLength, 4_096);
     }
-    let said = bids::book(text);
-    let next = said.next;
+    let parsed = bids::book(text);
+    let next = parsed.next;
     if next.stopped {
         return refused(Rule::Shape, next.at as u64);
     }
     if next.at < text.len() {
         return refused(Rule::Shape, next.at as u64);
     }
-    let book = said.book;
+    let book = parsed.book;
     let verdict = book::check(book);
     if let Verdict::Refused(rule, line) = verdict {
         return refused(rule, line);

@@ -4,7 +4,7 @@ ghost use Prim.Native.Nat.{_≤_};
 ghost use lib.ListN.{length};
 ghost use Rattle.scanner.specs.Scans.{Scans};
 ghost use Rattle.booktext.proofs.BookForm as Form;
-ghost use Rattle.reader.specs.Saying.{SaysSegments};
+ghost use Rattle.reader.specs.Parses.{ParsesSegments};
 use crate::records;
 use book::Bid;
 use book::Segment;
@@ -13,17 +13,17 @@ use money::Cents;
 use money::CentsPerBlank;
 use scanner::Cursor;
 
-pub struct SaidSegment {
+pub struct ParsedSegment {
     pub segment: Segment,
     pub next: Cursor,
 }
 
-pub struct SaidBid {
+pub struct ParsedBid {
     pub bid: Bid,
     pub next: Cursor,
 }
 
-fn segment(text: &[u8], from: Cursor) -> SaidSegment
+fn segment(text: &[u8], from: Cursor) -> ParsedSegment
     requires { ⌜ from .at ≤ length (now text) ⌝ }
     ensures { λ r. ⌜ Scans Form.segment (now (text .entry)) from (r .segment) (r .next) ⌝ }
     ensures { λ r. ⌜ r .next .at ≤ length (now (text .entry)) ⌝ }
@@ -38,7 +38,7 @@ fn segment(text: &[u8], from: Cursor) -> SaidSegment
     let fixed = scanner::signed(text, after_unit);
     let after_fixed = fixed.next;
     let next = scanner::word(text, after_fixed, b")");
-    SaidSegment {
+    ParsedSegment {
         segment: Segment {
             start: Blanks(start.value),
             end: Blanks(end.value),
@@ -50,9 +50,9 @@ fn segment(text: &[u8], from: Cursor) -> SaidSegment
 }
 
 // One or more segments, kept in a record of the bidder.
-pub fn segments(text: &[u8], from: Cursor, bidder: u64) -> SaidBid
+pub fn segments(text: &[u8], from: Cursor, bidder: u64) -> ParsedBid
     requires { ⌜ from .at ≤ length (now text) ⌝ }
-    ensures { λ r. ⌜ SaysSegments (now (text .entry)) from bidder (r .bid) (r .next) ⌝ }
+    ensures { λ r. ⌜ ParsesSegments (now (text .entry)) from bidder (r .bid) (r .next) ⌝ }
     ensures { λ r. ⌜ r .next .at ≤ length (now (text .entry)) ⌝ }
 {
     let first = segment(text, from);
@@ -62,10 +62,10 @@ pub fn segments(text: &[u8], from: Cursor, bidder: u64) -> SaidBid
     bid = records::with_segment(bid, s);
     let mut next = first.next;
     while scanner::begins(text, next, b' ') {
-        let said = segment(text, next);
-        let s = said.segment;
+        let parsed = segment(text, next);
+        let s = parsed.segment;
         bid = records::with_segment(bid, s);
-        next = said.next;
+        next = parsed.next;
     }
-    SaidBid { bid, next }
+    ParsedBid { bid, next }
 }

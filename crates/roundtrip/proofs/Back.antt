@@ -19,33 +19,33 @@ use Rattle.book.specs.Room.{roomOf}
 use Rattle.booktext.specs.BookText.{bookText}
 use Rattle.booktext.specs.Record.{bookRecord, emptyBook}
 use Rattle.booktext.specs.Arrays.{Arrays}
-use Rattle.booktext.proofs.Accepted.{sayable, same-record}
+use Rattle.booktext.proofs.Accepted.{well-formed, same-record}
 use Rattle.booktext.proofs.Records.{entries-of-record, record-arrays}
 use Rattle.booktext.proofs.Room.{room-bounds, text-short}
 use Rattle.printer.specs.Written.{written}
 use Rattle.reader.specs.declared.BookRead.{BookRead}
-use Rattle.reader.specs.Reading.{saidBook, readOf}
+use Rattle.reader.specs.Reading.{bookAnswer, readOf}
 use Rattle.writer.specs.Writing.{textOf, writeVerdict, writeOf, outputOf}
 use Rattle.writer.specs.declared.BookWritten.{BookWritten}
-use Rattle.roundtrip.proofs.Reading.{Says, accepted-says, says-read, said-accepted}
+use Rattle.roundtrip.proofs.Reading.{ReadAs, accepted-as, text-read, answer-accepted}
 
 -- a record whose book is accepted
 module _ (b : Book) (arrays : Arrays b) (accepted : bookVerdict (bookEntries b) ≡ Accepted) where
   read-record : readOf (textOf b) ≡ record { verdict = Accepted; book = bookRecord (bookEntries b) }
   read-record =
       let e = bookEntries b in
-      let it = sayable b arrays accepted in
+      let it = well-formed b arrays accepted in
       let short : length (textOf b) ≤ 4096 = omega (arith, text-short e it accepted) in
-      says-read (textOf b) e short (record { sayable = it; is = refl }) ∙ said-accepted e (ap bookVerdict (same-record b arrays accepted) ∙ accepted)
+      text-read (textOf b) e short (record { well-formed = it; is = refl }) ∙ answer-accepted e (ap bookVerdict (same-record b arrays accepted) ∙ accepted)
 
-  -- the text of an accepted record is accepted, and says the same book
+  -- the text of an accepted record is accepted, and is read as the same book
   pub reads-back : (readOf (textOf b) .verdict ≡ Accepted) × SameBook (readOf (textOf b) .book) b
   reads-back = (ap (λ (r : BookRead). r .verdict) read-record, ap (λ (r : BookRead). bookEntries (r .book)) read-record ∙ same-record b arrays accepted)
 
   -- the room figure bounds the text's length
   pub room-enough : length (textOf b) ≤ roomOf (bookEntries b) .bytes
   unfolding roomOf
-  room-enough = rw accepted (room-bounds (bookEntries b) (sayable b arrays accepted) accepted)
+  room-enough = rw accepted (room-bounds (bookEntries b) (well-formed b arrays accepted) accepted)
 
 -- what is known of a record that was written
 module _ (b : Book) (out : List ℕ) (accepted : writeVerdict b (length out) ≡ Accepted) where
@@ -56,7 +56,7 @@ module _ (b : Book) (out : List ℕ) (accepted : writeVerdict b (length out) ≡
   unfolding writeVerdict
   book-written = first-passed (bookVerdict (bookEntries b)) (fits ∷ []) accepted
 
-  -- the bytes that writing says it wrote are the text
+  -- the bytes written, as many as writing answers, are the text
   pub text-written : take (writeOf b (length out) .bytes) (outputOf b out) ≡ textOf b
   unfolding writeOf outputOf written
   text-written = rw accepted (take-append-seam (textOf b) (drop (0 + length (textOf b)) out))
@@ -70,24 +70,24 @@ read-written b out arrays accepted =
 -- an accepted text
 module _ (t : List ℕ) (accepted : readOf t .verdict ≡ Accepted) where
   abbrev meant : BookEntries
-  meant = accepted-says t accepted .0
+  meant = accepted-as t accepted .0
 
-  it-says : Says t meant
-  it-says = accepted-says t accepted .1
+  read-as : ReadAs t meant
+  read-as = accepted-as t accepted .1
 
   book-is : readOf t .book ≡ bookRecord meant
-  book-is = ap (λ (r : BookRead). r .book) (it-says .read)
+  book-is = ap (λ (r : BookRead). r .book) (read-as .read)
 
   entries-are : bookEntries (readOf t .book) ≡ meant
-  entries-are = ap bookEntries book-is ∙ entries-of-record meant (it-says .text .sayable) (it-says .accepted)
+  entries-are = ap bookEntries book-is ∙ entries-of-record meant (read-as .text .well-formed) (read-as .accepted)
 
-  -- it is the text of the book that it says
+  -- it is the text of the book that is read
   pub same-text : textOf (readOf t .book) ≡ t
-  same-text = ap bookText entries-are ∙ sym (it-says .text .is)
+  same-text = ap bookText entries-are ∙ sym (read-as .text .is)
 
   -- which is an accepted book
   pub book-accepted : bookVerdict (bookEntries (readOf t .book)) ≡ Accepted
-  book-accepted = ap (λ (r : Book). bookVerdict (bookEntries r)) book-is ∙ it-says .accepted
+  book-accepted = ap (λ (r : Book). bookVerdict (bookEntries r)) book-is ∙ read-as .accepted
 
   -- with zeros past the counts
   pub zeros-past : readOf t .book ≡ bookRecord (bookEntries (readOf t .book))
@@ -102,7 +102,7 @@ module _ (t : List ℕ) (accepted : readOf t .verdict ≡ Accepted) where
   pub arrays-read : Arrays (readOf t .book)
   arrays-read = subst Arrays (sym book-is) (record-arrays meant)
 
--- a text is accepted exactly if it is the text of an accepted book, and then says that book
+-- a text is accepted exactly if it is the text of an accepted book, and then means that book
 pub accepted-text : (t : List ℕ) → readOf t .verdict ≡ Accepted → (b : Book) × Arrays b × (bookVerdict (bookEntries b) ≡ Accepted) × (t ≡ textOf b)
 accepted-text t accepted = (readOf t .book, arrays-read t accepted, book-accepted t accepted, sym (same-text t accepted))
 

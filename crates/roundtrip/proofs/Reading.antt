@@ -16,39 +16,39 @@ use Rattle.refusal.proofs.Firsts.{refused-not}
 use Rattle.book.specs.Entries.{BookEntries, bookEntries}
 use Rattle.book.specs.Rules.{bookVerdict}
 use Rattle.book.proofs.Numbers.{book-numbers}
-use Rattle.forms.specs.Shape.{TextOf, Begins, Longest, Reading, says, stops, answer}
-use Rattle.forms.proofs.Whole.{answer-said, answer-stopped, one-answer}
+use Rattle.forms.specs.Shape.{TextOf, Begins, Longest, Reading, of-shape, not-of-shape, answer}
+use Rattle.forms.proofs.Whole.{answer-whole, answer-stopped, one-answer}
 use Rattle.booktext.specs.BookText.{bookText}
-use Rattle.booktext.specs.Sayable.{SayableBook}
+use Rattle.booktext.specs.WellFormed.{WellFormedBook}
 use Rattle.booktext.specs.Record.{bookRecord, emptyBook}
 use Rattle.booktext.proofs.BookForm.{book, book-reading}
 use Rattle.reader.specs.declared.BookRead.{BookRead}
-use Rattle.reader.specs.Reading.{refusedBook, saidBook, readOf}
+use Rattle.reader.specs.Reading.{refusedAnswer, bookAnswer, readOf}
 
--- what an accepted text says
-pub record Says (t : List ℕ) (b : BookEntries) : Type 0 where
+-- what an accepted text is read as
+pub record ReadAs (t : List ℕ) (b : BookEntries) : Type 0 where
   pub short : length t ≤ 4096
-  pub text : TextOf SayableBook bookText t b
+  pub text : TextOf WellFormedBook bookText t b
   pub accepted : bookVerdict (bookEntries (bookRecord b)) ≡ Accepted
   pub read : readOf t ≡ record { verdict = Accepted; book = bookRecord b }
 
-pub said-accepted : (b : BookEntries) → bookVerdict (bookEntries (bookRecord b)) ≡ Accepted → saidBook b ≡ record { verdict = Accepted; book = bookRecord b }
-unfolding saidBook
-said-accepted b e = ap (λ (v : Verdict). record { verdict = v; book = whenAccepted v (bookRecord b) emptyBook }) e
+pub answer-accepted : (b : BookEntries) → bookVerdict (bookEntries (bookRecord b)) ≡ Accepted → bookAnswer b ≡ record { verdict = Accepted; book = bookRecord b }
+unfolding bookAnswer
+answer-accepted b e = ap (λ (v : Verdict). record { verdict = v; book = whenAccepted v (bookRecord b) emptyBook }) e
 
-pub accepted-says : (t : List ℕ) → readOf t .verdict ≡ Accepted → (b : BookEntries) × Says t b
-unfolding readOf answer saidBook
-accepted-says t e = go (leb (length t) 4096) refl e
+pub accepted-as : (t : List ℕ) → readOf t .verdict ≡ Accepted → (b : BookEntries) × ReadAs t b
+unfolding readOf answer bookAnswer
+accepted-as t e = go (leb (length t) 4096) refl e
   where
-    whole : Reading SayableBook bookText t → BookRead
-    whole = answer SayableBook bookText saidBook (refusedBook Shape)
+    whole : Reading WellFormedBook bookText t → BookRead
+    whole = answer WellFormedBook bookText bookAnswer (refusedAnswer Shape)
 
-    by : leb (length t) 4096 ≡ true → (x : Reading SayableBook bookText t) → readOf t ≡ whole x → whole x .verdict ≡ Accepted → (b : BookEntries) × Says t b
-    by q (says b it) i f = (b, record { short = leb-true (length t) 4096 q; text = it; accepted = f; read = i ∙ said-accepted b f })
-    by q (stops n none it) i f = refused-not f
+    by : leb (length t) 4096 ≡ true → (x : Reading WellFormedBook bookText t) → readOf t ≡ whole x → whole x .verdict ≡ Accepted → (b : BookEntries) × ReadAs t b
+    by q (of-shape b it) i f = (b, record { short = leb-true (length t) 4096 q; text = it; accepted = f; read = i ∙ answer-accepted b f })
+    by q (not-of-shape n none it) i f = refused-not f
 
-    go : (x : Bool) → leb (length t) 4096 ≡ x → cond x (whole (book-reading t)) (refusedBook TextLength 4096) .verdict ≡ Accepted → (b : BookEntries) × Says t b
-    go true q f = by q (book-reading t) (ap (λ (x : Bool). cond x (whole (book-reading t)) (refusedBook TextLength 4096)) q) f
+    go : (x : Bool) → leb (length t) 4096 ≡ x → cond x (whole (book-reading t)) (refusedAnswer TextLength 4096) .verdict ≡ Accepted → (b : BookEntries) × ReadAs t b
+    go true q f = by q (book-reading t) (ap (λ (x : Bool). cond x (whole (book-reading t)) (refusedAnswer TextLength 4096)) q) f
     go false q f = refused-not f
 
 -- no rule for a record is the rule for a text's shape
@@ -58,50 +58,50 @@ not-shape b n e = omega (arith, book-numbers b Shape n e .0)
 -- Refusal 2: the text is not of the shape, and the place is the length of the longest beginning that some text of the shape also has.
 pub record NotOfShape (t : List ℕ) (n : ℕ) : Type 0 where
   pub short : length t ≤ 4096
-  pub no-book : (b : BookEntries) → TextOf SayableBook bookText t b → ⊥
-  pub longest : Longest SayableBook bookText t n
+  pub no-book : (b : BookEntries) → TextOf WellFormedBook bookText t b → ⊥
+  pub longest : Longest WellFormedBook bookText t n
 
 pub refused-place : (t : List ℕ) (n : ℕ) → readOf t .verdict ≡ Refused Shape n → NotOfShape t n
-unfolding readOf answer saidBook
+unfolding readOf answer bookAnswer
 refused-place t n e = go (leb (length t) 4096) refl e
   where
-    whole : Reading SayableBook bookText t → BookRead
-    whole = answer SayableBook bookText saidBook (refusedBook Shape)
+    whole : Reading WellFormedBook bookText t → BookRead
+    whole = answer WellFormedBook bookText bookAnswer (refusedAnswer Shape)
 
     same : (m : ℕ) → Refused Shape m ≡ Refused Shape n → m ≡ n
     same m i = cc
 
-    by : leb (length t) 4096 ≡ true → (x : Reading SayableBook bookText t) → whole x .verdict ≡ Refused Shape n → NotOfShape t n
-    by q (says b it) f = absurd (not-shape (bookEntries (bookRecord b)) n f)
-    by q (stops m none it) f = record { short = leb-true (length t) 4096 q; no-book = none; longest = subst (Longest SayableBook bookText t) (same m f) it }
+    by : leb (length t) 4096 ≡ true → (x : Reading WellFormedBook bookText t) → whole x .verdict ≡ Refused Shape n → NotOfShape t n
+    by q (of-shape b it) f = absurd (not-shape (bookEntries (bookRecord b)) n f)
+    by q (not-of-shape m none it) f = record { short = leb-true (length t) 4096 q; no-book = none; longest = subst (Longest WellFormedBook bookText t) (same m f) it }
 
-    go : (x : Bool) → leb (length t) 4096 ≡ x → cond x (whole (book-reading t)) (refusedBook TextLength 4096) .verdict ≡ Refused Shape n → NotOfShape t n
+    go : (x : Bool) → leb (length t) 4096 ≡ x → cond x (whole (book-reading t)) (refusedAnswer TextLength 4096) .verdict ≡ Refused Shape n → NotOfShape t n
     go true q f = by q (book-reading t) f
     go false q f = absurd (omega (arith, ap numberOf f))
 
-pub place-refused : (t : List ℕ) (n : ℕ) → NotOfShape t n → readOf t ≡ refusedBook Shape n
+pub place-refused : (t : List ℕ) (n : ℕ) → NotOfShape t n → readOf t ≡ refusedAnswer Shape n
 unfolding readOf
 place-refused t n s =
-    ap (λ (x : Bool). cond x (answer SayableBook bookText saidBook (refusedBook Shape) (book-reading t)) (refusedBook TextLength 4096)) (le-leb (length t) 4096 (s .short))
-    ∙ answer-stopped book saidBook (refusedBook Shape) t n (s .no-book) (s .longest) (book-reading t)
+    ap (λ (x : Bool). cond x (answer WellFormedBook bookText bookAnswer (refusedAnswer Shape) (book-reading t)) (refusedAnswer TextLength 4096)) (le-leb (length t) 4096 (s .short))
+    ∙ answer-stopped book bookAnswer (refusedAnswer Shape) t n (s .no-book) (s .longest) (book-reading t)
 
 -- in other words: some text of the shape has these first n bytes, and none has these first n + 1, or the text ends there
-pub first-bytes : (t : List ℕ) (n : ℕ) → NotOfShape t n → Begins SayableBook bookText (take n t)
+pub first-bytes : (t : List ℕ) (n : ℕ) → NotOfShape t n → Begins WellFormedBook bookText (take n t)
 first-bytes t n s = s .longest .begins
 
-pub one-byte-more : (t : List ℕ) (n : ℕ) → NotOfShape t n → n < length t → Begins SayableBook bookText (take (suc n) t) → ⊥
+pub one-byte-more : (t : List ℕ) (n : ℕ) → NotOfShape t n → n < length t → Begins WellFormedBook bookText (take (suc n) t) → ⊥
 one-byte-more t n s h b = omega (arith, s .longest .longest (suc n) h b)
 
--- a text that says a book is answered by it
-pub says-read : (t : List ℕ) (b : BookEntries) → length t ≤ 4096 → TextOf SayableBook bookText t b → readOf t ≡ saidBook b
+-- the text of a book is answered by it
+pub text-read : (t : List ℕ) (b : BookEntries) → length t ≤ 4096 → TextOf WellFormedBook bookText t b → readOf t ≡ bookAnswer b
 unfolding readOf
-says-read t b h it =
-    ap (λ (x : Bool). cond x (answer SayableBook bookText saidBook (refusedBook Shape) (book-reading t)) (refusedBook TextLength 4096)) (le-leb (length t) 4096 h)
-    ∙ answer-said book saidBook (refusedBook Shape) t b it (book-reading t)
+text-read t b h it =
+    ap (λ (x : Bool). cond x (answer WellFormedBook bookText bookAnswer (refusedAnswer Shape) (book-reading t)) (refusedAnswer TextLength 4096)) (le-leb (length t) 4096 h)
+    ∙ answer-whole book bookAnswer (refusedAnswer Shape) t b it (book-reading t)
 
 -- Which of a text's readings is taken makes no difference: there is one answer.
-pub any-reading : (t : List ℕ) → length t ≤ 4096 → (x : Reading SayableBook bookText t) → readOf t ≡ answer SayableBook bookText saidBook (refusedBook Shape) x
+pub any-reading : (t : List ℕ) → length t ≤ 4096 → (x : Reading WellFormedBook bookText t) → readOf t ≡ answer WellFormedBook bookText bookAnswer (refusedAnswer Shape) x
 unfolding readOf
 any-reading t h x =
-    ap (λ (b : Bool). cond b (answer SayableBook bookText saidBook (refusedBook Shape) (book-reading t)) (refusedBook TextLength 4096)) (le-leb (length t) 4096 h)
-    ∙ one-answer book saidBook (refusedBook Shape) t (book-reading t) x
+    ap (λ (b : Bool). cond b (answer WellFormedBook bookText bookAnswer (refusedAnswer Shape) (book-reading t)) (refusedAnswer TextLength 4096)) (le-leb (length t) 4096 h)
+    ∙ one-answer book bookAnswer (refusedAnswer Shape) t (book-reading t) x

@@ -1,7 +1,7 @@
 use mathlib.Core.Path.{_≡_, _∙_, subst}
 use Rattle.forms.proofs.Place.{Gives}
 use Rattle.booktext.proofs.BookForm.{book}
-use Rattle.reader.proofs.Answers.{read-long, read-stopped, read-ended, read-said, said-refused, said-accepted}
+use Rattle.reader.proofs.Answers.{read-long, read-stopped, read-ended, read-whole, answer-refused, answer-accepted}
 use borrow.Author.Needs.{needs}
 use Rattle.reader.proofs.read.Statement.{statement}
 use Rattle.reader.proofs.read.Tie as tie
@@ -62,8 +62,8 @@ returns-4 : tie.Need-returns-4
 returns-4 c =
     let t = c .before .before .before .before .before .before .before .before .before .before .before .before .before .args .text .now in
     let b = c .before .before .before .before .before .before .before .before .before .before .book in
-    let said = read-said t (c .before .before .before .before .before .before .before .before .before .before .before .if1 .left) (b .ensures .0) (b .result .next .at) (subst (Gives book t 0 (b .ensures .0) (b .result .next .at)) (c .before .before .before .before .before .before .before .before .if2 .left) (b .ensures .2)) (c .before .before .before .before .before .before .if3 .left) in
-    c .refused4 .ensures ∙ said-refused (b .ensures .0) (b .result .book) (c .before .before .before .before .check .result) (c .before .before .verdict .given .0 .0) (c .before .before .verdict .given .0 .1 .0) (b .ensures .1) (c .before .before .before .before .check .ensures) (c .before .before .verdict .given .1) ∙ said
+    let parsed = read-whole t (c .before .before .before .before .before .before .before .before .before .before .before .if1 .left) (b .ensures .0) (b .result .next .at) (subst (Gives book t 0 (b .ensures .0) (b .result .next .at)) (c .before .before .before .before .before .before .before .before .if2 .left) (b .ensures .2)) (c .before .before .before .before .before .before .if3 .left) in
+    c .refused4 .ensures ∙ answer-refused (b .ensures .0) (b .result .book) (c .before .before .before .before .check .result) (c .before .before .verdict .given .0 .0) (c .before .before .verdict .given .0 .1 .0) (b .ensures .1) (c .before .before .before .before .check .ensures) (c .before .before .verdict .given .1) ∙ parsed
 
 enum-told : tie.Need-enum-told
 enum-told c = search needs
@@ -73,8 +73,8 @@ returns-5 : tie.Need-returns-5
 returns-5 c =
     let t = c .before .before .before .before .before .before .before .before .before .before .before .args .text .now in
     let b = c .before .before .before .before .before .before .before .before .book in
-    let said = read-said t (c .before .before .before .before .before .before .before .before .before .if1 .left) (b .ensures .0) (b .result .next .at) (subst (Gives book t 0 (b .ensures .0) (b .result .next .at)) (c .before .before .before .before .before .before .if2 .left) (b .ensures .2)) (c .before .before .before .before .if3 .left) in
-    said-accepted (b .ensures .0) (b .result .book) (c .before .before .check .result) (b .ensures .1) (c .before .before .check .ensures) (c .enum-told .given .1) ∙ said
+    let parsed = read-whole t (c .before .before .before .before .before .before .before .before .before .if1 .left) (b .ensures .0) (b .result .next .at) (subst (Gives book t 0 (b .ensures .0) (b .result .next .at)) (c .before .before .before .before .before .before .if2 .left) (b .ensures .2)) (c .before .before .before .before .if3 .left) in
+    answer-accepted (b .ensures .0) (b .result .book) (c .before .before .check .result) (b .ensures .1) (c .before .before .check .ensures) (c .enum-told .given .1) ∙ parsed
 
 pub read-spec : {M : Type 1} → statement M
 read-spec =

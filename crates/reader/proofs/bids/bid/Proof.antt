@@ -41,12 +41,12 @@ returns c =
     let a = c .before .before .before .before .before .before .before .before .before .before .args in
     let w = c .before .before .before .before .before .before .before .word in
     let n = c .before .before .before .before .before .before .number in
-    let said = c .before .before .before .before .segments in
-    let xs = said .ensures .0 .0 in (
+    let parsed = c .before .before .before .before .segments in
+    let xs = parsed .ensures .0 .0 in (
       (
         bidOf (n .result .value) xs,
-        said .ensures .0 .1,
-        bid-scanned (a .text .now) (a .from) (w .result) (n .result .value) (n .result .next) xs (said .result .next) (c .word2 .result) (w .ensures .0) (n .ensures .1 .0 from-0) (said .ensures .0 .2) (c .word2 .ensures .0),
+        parsed .ensures .0 .1,
+        bid-scanned (a .text .now) (a .from) (w .result) (n .result .value) (n .result .next) xs (parsed .result .next) (c .word2 .result) (w .ensures .0) (n .ensures .1 .0 from-0) (parsed .ensures .0 .2) (c .word2 .ensures .0),
       ),
       c .word2 .ensures .1,
     )

@@ -58,8 +58,8 @@ loop-less : tie.Need-loop-less Inv-loop μ-loop
 loop-less c =
     let a = c .before .before .before .before .before .before .before .before .before .before .before .before .before .args in
     let l = c .before .before .before .before .before .before .loop in
-    let said = c .before .before .before .bid2 in
-    left-falls 40 bid bid-open tt (bidsKept (a .demand)) bidCount (a .text .now) (l .next .at) (l .next .stopped) (l .inv .run .within) (sym (c .before .before .before .before .before .begins .ensures) ∙ c .before .before .before .before .if1 .taken) (said .ensures .0 .0) (said .result .next .at) (said .result .next .stopped) (said .ensures .0 .2)
+    let parsed = c .before .before .before .bid2 in
+    left-falls 40 bid bid-open tt (bidsKept (a .demand)) bidCount (a .text .now) (l .next .at) (l .next .stopped) (l .inv .run .within) (sym (c .before .before .before .before .before .begins .ensures) ∙ c .before .before .before .before .if1 .taken) (parsed .ensures .0 .0) (parsed .result .next .at) (parsed .result .next .stopped) (parsed .ensures .0 .2)
 
 -- src/bids.rt:44:5
 loop-again : tie.Need-loop-again Inv-loop μ-loop
@@ -68,11 +68,11 @@ loop-again c =
     let l = c .before .before .before .before .before .before .loop in
     let r₀ = c .before .before .before .before .before .before .before .before .with-bid in
     let f = c .before .before .before .before .before .before .before .before .before .before .before .bid in
-    let said = c .before .before .before .bid2 in
-    let b = said .ensures .0 .0 in
+    let parsed = c .before .before .before .bid2 in
+    let b = parsed .ensures .0 .0 in
     let r = c .before .with-bid2 in
-    collected-next 40 bid bid-open tt (bidsKept (a .demand)) bidCount (a .text .now) (r₀ .result) (f .result .next .at) (f .result .next .stopped) (l .book) (l .next .at) (l .next .stopped) (l .inv) (sym (c .before .before .before .before .before .begins .ensures) ∙ c .before .before .before .before .if1 .taken) b (said .result .next .at) (said .result .next .stopped) (said .ensures .0 .2) (r .result)
-    (λ xs e. r .ensures ∙ ap (withBid (l .book)) (said .ensures .0 .1) ∙ bid-kept (a .demand) (l .book) b xs e) (ap bidCount (r .ensures))
+    collected-next 40 bid bid-open tt (bidsKept (a .demand)) bidCount (a .text .now) (r₀ .result) (f .result .next .at) (f .result .next .stopped) (l .book) (l .next .at) (l .next .stopped) (l .inv) (sym (c .before .before .before .before .before .begins .ensures) ∙ c .before .before .before .before .if1 .taken) b (parsed .result .next .at) (parsed .result .next .stopped) (parsed .ensures .0 .2) (r .result)
+    (λ xs e. r .ensures ∙ ap (withBid (l .book)) (parsed .ensures .0 .1) ∙ bid-kept (a .demand) (l .book) b xs e) (ap bidCount (r .ensures))
 
 -- src/bids.rt:33:1
 returns : tie.Need-returns Inv-loop μ-loop

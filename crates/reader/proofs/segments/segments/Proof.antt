@@ -56,8 +56,8 @@ loop-less : tie.Need-loop-less Inv-loop μ-loop
 loop-less c =
     let a = c .before .before .before .before .before .before .before .before .before .before .before .before .before .args in
     let l = c .before .before .before .before .before .before .loop in
-    let said = c .before .before .before .segment2 in
-    left-falls 32 segment segment-space tt (segmentsKept (a .bidder)) segmentCount (a .text .now) (l .next .at) (l .next .stopped) (l .inv .run .within) (sym (c .before .before .before .before .before .begins .ensures) ∙ c .before .before .before .before .if1 .taken) (said .result .segment) (said .result .next .at) (said .result .next .stopped) (said .ensures .0)
+    let parsed = c .before .before .before .segment2 in
+    left-falls 32 segment segment-space tt (segmentsKept (a .bidder)) segmentCount (a .text .now) (l .next .at) (l .next .stopped) (l .inv .run .within) (sym (c .before .before .before .before .before .begins .ensures) ∙ c .before .before .before .before .if1 .taken) (parsed .result .segment) (parsed .result .next .at) (parsed .result .next .stopped) (parsed .ensures .0)
 
 -- src/segments.rt:62:5
 loop-again : tie.Need-loop-again Inv-loop μ-loop
@@ -66,10 +66,10 @@ loop-again c =
     let l = c .before .before .before .before .before .before .loop in
     let r₀ = c .before .before .before .before .before .before .before .before .with-segment in
     let f = c .before .before .before .before .before .before .before .before .before .before .before .segment in
-    let said = c .before .before .before .segment2 in
+    let parsed = c .before .before .before .segment2 in
     let r = c .before .with-segment2 in
-    collected-next 32 segment segment-space tt (segmentsKept (a .bidder)) segmentCount (a .text .now) (r₀ .result) (f .result .next .at) (f .result .next .stopped) (l .bid) (l .next .at) (l .next .stopped) (l .inv) (sym (c .before .before .before .before .before .begins .ensures) ∙ c .before .before .before .before .if1 .taken) (said .result .segment) (said .result .next .at) (said .result .next .stopped) (said .ensures .0) (r .result)
-    (λ xs e. r .ensures ∙ segment-kept (a .bidder) (l .bid) (said .result .segment) xs e) (ap segmentCount (r .ensures))
+    collected-next 32 segment segment-space tt (segmentsKept (a .bidder)) segmentCount (a .text .now) (r₀ .result) (f .result .next .at) (f .result .next .stopped) (l .bid) (l .next .at) (l .next .stopped) (l .inv) (sym (c .before .before .before .before .before .begins .ensures) ∙ c .before .before .before .before .if1 .taken) (parsed .result .segment) (parsed .result .next .at) (parsed .result .next .stopped) (parsed .ensures .0) (r .result)
+    (λ xs e. r .ensures ∙ segment-kept (a .bidder) (l .bid) (parsed .result .segment) xs e) (ap segmentCount (r .ensures))
 
 -- src/segments.rt:52:1
 returns : tie.Need-returns Inv-loop μ-loop
