@@ -50,7 +50,9 @@ of-bid line before b =
 of-bids : (line before : ℕ) (bs : List BidEntries) → OfRecord (bidsVerdict line before bs)
 unfolding bidsVerdict
 of-bids line before [] = tt
-of-bids line before (b ∷ bs) = of-first (bidVerdict line before b ∷ bidsVerdict (line + 1) (b .bidder) bs ∷ []) (of-bid line before b, (of-bids (line + 1) (b .bidder) bs, tt))
+of-bids line before (b ∷ bs) =
+    of-first (bidVerdict line before b ∷ bidsVerdict (line + 1) (b .bidder) bs ∷ [])
+    (of-bid line before b, (of-bids (line + 1) (b .bidder) bs, tt))
 
 of-book : (b : BookEntries) → OfRecord (bookVerdict b)
 unfolding bookVerdict

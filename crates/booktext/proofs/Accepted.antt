@@ -5,7 +5,6 @@ use mathlib.Core.Bool.{true}
 use mathlib.Core.Path.{_≡_, sym}
 use lib.ListN.{length, take, length-map}
 use lib.Seq.{length-take-le}
-use Rattle.lists.specs.All.{All}
 use Rattle.lists.proofs.All.{all-tested, all-from, all-both, all-take, all-map, map-all}
 use Rattle.refusal.specs.declared.Verdict.the-variants.{Accepted}
 use Rattle.book.specs.declared.Segment.{Segment}
@@ -25,7 +24,8 @@ use Rattle.booktext.proofs.Records.{FewSegments, entries-back}
 well-formed-segment : (s : Segment) → segmentInRange s ≡ true → WellFormedSegment s
 well-formed-segment s e =
     let r = in-range s e in
-    record { start = few-digits _ (omega arith); end = few-digits _ (omega arith); unit = few-digits _ (omega arith); fixed = few-digits _ (omega arith) }
+    record
+    { start = few-digits _ (omega arith); end = few-digits _ (omega arith); unit = few-digits _ (omega arith); fixed = few-digits _ (omega arith) }
 
 well-formed-bid : (x : Bid) → AcceptedBid (bidEntries x) × SixSegments x → WellFormedBid (bidEntries x)
 well-formed-bid x h =

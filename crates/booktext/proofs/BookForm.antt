@@ -1,19 +1,16 @@
 -- The bid book's text as a form of text. Assumes nothing.
-use Prim.Native.Nat.{ℕ, _≤_, _<_}
+use Prim.Native.Nat.{ℕ}
 use native.Mathlib.Omega.{arith}
-use mathlib.Core.List.{List, [], _∷_, _++_, append-assoc, append-nil}
-use mathlib.Core.Path.{_≡_, refl, sym, ap, subst}
+use mathlib.Core.List.{List, _++_, append-assoc}
+use mathlib.Core.Path.{refl, sym, ap, subst}
 use lib.IntN.{ℤ, natAbs}
 use lib.ListN.{length}
-use Rattle.lists.specs.All.{All}
-use Rattle.lists.specs.Joined.{joined}
 use Rattle.forms.specs.Bytes.{ascii}
-use Rattle.forms.specs.Digits.{digits, signedDigits}
 use Rattle.forms.specs.Shape.{Reading}
 use Rattle.forms.proofs.Digits.{few-digits, few-below}
 use Rattle.forms.proofs.Form.{Form, Next, any}
 use Rattle.forms.proofs.Word.{word}
-use Rattle.forms.proofs.Number.{number, Number, NoDigit}
+use Rattle.forms.proofs.Number.{number, NoDigit}
 use Rattle.forms.proofs.Signed.{signed, from-0}
 use Rattle.forms.proofs.Pair.{pair, Follows}
 use Rattle.forms.proofs.Via.{via, Same}
@@ -71,7 +68,9 @@ abbrev pub segment-parts : Form SegmentParts
 segment-parts = pair (word (ascii " (seg ")) start-end-prices (after-word (ascii " (seg ") start-end-prices)
 
 abbrev pub toSegment : SegmentParts → Segment
-toSegment x = record { start = record { 0 = x .1 .0 .0 }; end = record { 0 = x .1 .1 .0 .0 }; unit = record { 0 = x .1 .1 .1 .0 .0 }; fixed = record { 0 = x .1 .1 .1 .1 .0 } }
+toSegment x =
+    record
+    { start = record { 0 = x .1 .0 .0 }; end = record { 0 = x .1 .1 .0 .0 }; unit = record { 0 = x .1 .1 .1 .0 .0 }; fixed = record { 0 = x .1 .1 .1 .1 .0 } }
 
 abbrev pub fromSegment : Segment → SegmentParts
 fromSegment s = (tt, ((s .start .0, tt), ((s .end .0, tt), ((s .unit .0, tt), (s .fixed .0, tt)))))
@@ -79,9 +78,22 @@ fromSegment s = (tt, ((s .start .0, tt), ((s .end .0, tt), ((s .unit .0, tt), (s
 pub same-segment : Same segment-parts toSegment fromSegment WellFormedSegment segmentText
 unfolding segmentText
 same-segment = record {
-  to-valid = λ s v. (tt, (((omega arith, few-below (s .start .0) (v .start)), tt), (((omega arith, few-below (s .end .0) (v .end)), tt), (((omega arith, few-below (s .unit .0) (v .unit)), tt), (few-below (natAbs (s .fixed .0)) (v .fixed), tt)))));
+  to-valid =
+      λ s v. (
+        tt,
+        (
+          ((omega arith, few-below (s .start .0) (v .start)), tt),
+          (
+            ((omega arith, few-below (s .end .0) (v .end)), tt),
+            (((omega arith, few-below (s .unit .0) (v .unit)), tt), (few-below (natAbs (s .fixed .0)) (v .fixed), tt)),
+          ),
+        ),
+      );
   back = λ s v. refl;
-  from-valid = λ x v. record { start = few-digits _ (v .1 .0 .0 .1); end = few-digits _ (v .1 .1 .0 .0 .1); unit = few-digits _ (v .1 .1 .1 .0 .0 .1); fixed = few-digits _ (v .1 .1 .1 .1 .0) };
+  from-valid =
+      λ x v.
+      record
+      { start = few-digits _ (v .1 .0 .0 .1); end = few-digits _ (v .1 .1 .0 .0 .1); unit = few-digits _ (v .1 .1 .1 .0 .0 .1); fixed = few-digits _ (v .1 .1 .1 .1 .0) };
   same-text = λ x v. simp append-assoc;
 }
 

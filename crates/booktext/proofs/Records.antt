@@ -103,5 +103,7 @@ record-arrays b =
     let six = all-map bidRecord SixSegments (b .bids) (all-any _ (λ x. length-held-is 6 emptySegment (x .segments)) (b .bids)) in
     record {
       bids = length-held-is 8 emptyBid bids;
-      segments = all-take SixSegments 8 (bids ++ replicate 8 emptyBid) (all-append SixSegments bids (replicate 8 emptyBid) six (all-same SixSegments 8 emptyBid refl));
+      segments =
+          all-take SixSegments 8 (bids ++ replicate 8 emptyBid)
+          (all-append SixSegments bids (replicate 8 emptyBid) six (all-same SixSegments 8 emptyBid refl));
     }

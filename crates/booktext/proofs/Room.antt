@@ -73,7 +73,9 @@ module _ (b : BookEntries) (well-formed : WellFormedBook b) (accepted : bookVerd
   unfolding bookText
   room-bounds =
       let demand = seven (b .demand) (book-accepted b accepted .demand-high) in
-      let each = all-from _ RoomFor bid-short (b .bids) (all-both WellFormedBid AcceptedBid (b .bids) (well-formed .bids) (all-accepted b accepted)) in
+      let each =
+      all-from _ RoomFor bid-short (b .bids)
+      (all-both WellFormedBid AcceptedBid (b .bids) (well-formed .bids) (all-accepted b accepted)) in
       simp length-append (omega (arith, bids-short (b .bids) each))
 
   pub text-short : length (bookText b) ≤ 2265

@@ -30,7 +30,8 @@ digits-one n h = one n n h
 pub digits-more : (n : ℕ) → 10 ≤ n → digits n ≡ digits (n / 10) ++ digit (n % 10)
 unfolding digits digitsWithin
 digits-more zero h = absurd (omega arith)
-digits-more (suc k) h = rw (le-ltb (suc k) 10 h) (ap (λ (l : List ℕ). l ++ digit (suc k % 10)) (enough k (suc k / 10) (suc k / 10) (omega arith) (omega arith)))
+digits-more (suc k) h =
+    rw (le-ltb (suc k) 10 h) (ap (λ (l : List ℕ). l ++ digit (suc k % 10)) (enough k (suc k / 10) (suc k / 10) (omega arith) (omega arith)))
 
 pub digits-next : (v d : ℕ) → 1 ≤ v → d < 10 → digits (v * 10 + d) ≡ digits v ++ digit d
 digits-next v d hv hd =
@@ -67,7 +68,9 @@ pub record First (n : ℕ) : Type 0 where
 pub first : (n : ℕ) → First n
 first = by-digits First
     (λ n h. record { byte = 48 + n; rest = []; is = digits-one n h; low = omega arith; high = omega arith })
-    (λ n h f. record { byte = f .byte; rest = f .rest ++ digit (n % 10); is = digits-more n h ∙ ap (λ (l : List ℕ). l ++ digit (n % 10)) (f .is); low = f .low; high = f .high })
+    (λ n h f.
+    record
+    { byte = f .byte; rest = f .rest ++ digit (n % 10); is = digits-more n h ∙ ap (λ (l : List ℕ). l ++ digit (n % 10)) (f .is); low = f .low; high = f .high })
 
 -- how many digits: at most k + 1 exactly below 10 to the power k + 1
 pub length-below : (k n : ℕ) → n < 10 ^ suc k → length (digits n) ≤ suc k

@@ -1,5 +1,5 @@
 -- The byte x and then p, or q, whose texts begin with another byte. Assumes nothing.
-use Prim.Native.Nat.{ℕ, zero, suc, _+_, _≤_, _<_}
+use Prim.Native.Nat.{ℕ, suc, _+_, _≤_, _<_}
 use native.Mathlib.Omega.{arith}
 use mathlib.Core.Bool.{Bool, true, false, cond}
 use mathlib.Core.List.{List, [], _∷_, _++_}
@@ -9,7 +9,7 @@ use borrow.Author.Tests.{eq-eqb, ne-eqb, eqb-true}
 use lib.Dec.{eqb}
 use lib.ListN.{length, take}
 use Rattle.forms.specs.Shape.{Begins}
-use Rattle.forms.proofs.Parse.{Parse, parsed, stopped, not-both, same-place, after, after-parsed, after-stopped}
+use Rattle.forms.proofs.Parse.{Parse, parsed, stopped, after, after-parsed, after-stopped}
 use Rattle.forms.proofs.Form.{Form, Next}
 
 -- every text of q begins with another byte than x
@@ -72,26 +72,32 @@ module _ {A B : Type 0} (x : ℕ) (p : Form A) (q : Form B) where
     either-sound [] v r e = right-sound [] v r e
     either-sound (b ∷ t) v r e = go (eqb b x) refl e
       where
-        go : (w : Bool) → eqb b x ≡ w → cond w (left (p .parse t)) (right (q .parse (b ∷ t))) ≡ parsed v r → either-valid v × (b ∷ t ≡ either-text v ++ r)
+        go : (w : Bool) → eqb b x ≡ w → cond w (left (p .parse t)) (right (q .parse (b ∷ t))) ≡ parsed v r
+            → either-valid v × (b ∷ t ≡ either-text v ++ r)
         go true i e′ =
             let l = after-parsed 1 (λ a. inl a) (p .parse t) e′ in
             let k = p .sound t (l .0) r (l .1) in
-            subst (λ (w : A ⊎ B). either-valid w × (b ∷ t ≡ either-text w ++ r)) (l .2) (k .0, ap₂ (λ (c : ℕ) (z : List ℕ). c ∷ z) (eqb-true b x i) (k .1))
+            subst (λ (w : A ⊎ B). either-valid w × (b ∷ t ≡ either-text w ++ r)) (l .2)
+            (k .0, ap₂ (λ (c : ℕ) (z : List ℕ). c ∷ z) (eqb-true b x i) (k .1))
         go false i e′ = right-sound (b ∷ t) v r e′
 
-    right-ahead : (t : List ℕ) (v : A ⊎ B) (r s : List ℕ) → right (q .parse t) ≡ parsed v r → take 1 s ≡ take 1 r → either-parse (either-text v ++ s) ≡ parsed v s
+    right-ahead : (t : List ℕ) (v : A ⊎ B) (r s : List ℕ) → right (q .parse t) ≡ parsed v r → take 1 s ≡ take 1 r
+        → either-parse (either-text v ++ s) ≡ parsed v s
     right-ahead t v r s e h =
         let l = after-parsed 0 (λ b. inr b) (q .parse t) e in
-        subst (λ (w : A ⊎ B). either-parse (either-text w ++ s) ≡ parsed w s) (l .2) (by-right (l .0) s (q .sound t (l .0) r (l .1) .0) ∙ ap right (q .ahead t (l .0) r s (l .1) h))
+        subst (λ (w : A ⊎ B). either-parse (either-text w ++ s) ≡ parsed w s) (l .2)
+        (by-right (l .0) s (q .sound t (l .0) r (l .1) .0) ∙ ap right (q .ahead t (l .0) r s (l .1) h))
 
-    pub either-ahead : (t : List ℕ) (v : A ⊎ B) (r s : List ℕ) → either-parse t ≡ parsed v r → take 1 s ≡ take 1 r → either-parse (either-text v ++ s) ≡ parsed v s
+    pub either-ahead : (t : List ℕ) (v : A ⊎ B) (r s : List ℕ) → either-parse t ≡ parsed v r → take 1 s ≡ take 1 r
+        → either-parse (either-text v ++ s) ≡ parsed v s
     either-ahead [] v r s e h = right-ahead [] v r s e h
     either-ahead (b ∷ t) v r s e h = go (eqb b x) e
       where
         go : (w : Bool) → cond w (left (p .parse t)) (right (q .parse (b ∷ t))) ≡ parsed v r → either-parse (either-text v ++ s) ≡ parsed v s
         go true e′ =
             let l = after-parsed 1 (λ a. inl a) (p .parse t) e′ in
-            subst (λ (w : A ⊎ B). either-parse (either-text w ++ s) ≡ parsed w s) (l .2) (by-left (p .text (l .0) ++ s) ∙ ap left (p .ahead t (l .0) r s (l .1) h))
+            subst (λ (w : A ⊎ B). either-parse (either-text w ++ s) ≡ parsed w s) (l .2)
+            (by-left (p .text (l .0) ++ s) ∙ ap left (p .ahead t (l .0) r s (l .1) h))
         go false e′ = right-ahead (b ∷ t) v r s e′ h
 
     -- a place is that of the one parsed
@@ -120,7 +126,9 @@ module _ {A B : Type 0} (x : ℕ) (p : Form A) (q : Form B) where
                 value = inl (P .1 .value);
                 well-formed = P .1 .well-formed;
                 more = P .1 .more;
-                goes-on = ap₂ (λ (c : ℕ) (u : List ℕ). c ∷ u) (sym (eqb-true b x i)) (P .1 .goes-on) ∙ ap (λ (j : ℕ). take j (b ∷ t) ++ P .1 .more) (sym z);
+                goes-on =
+                    ap₂ (λ (c : ℕ) (u : List ℕ). c ∷ u) (sym (eqb-true b x i)) (P .1 .goes-on)
+                    ∙ ap (λ (j : ℕ). take j (b ∷ t) ++ P .1 .more) (sym z);
               },
             )
         go false i e′ = right-viable (b ∷ t) n e′

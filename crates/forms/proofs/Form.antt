@@ -1,5 +1,5 @@
 -- A form of text: the texts of its values, a parser for them, and the laws between the two. Assumes nothing.
-use Prim.Native.Nat.{ℕ, zero, suc, _+_, _≤_, _<_}
+use Prim.Native.Nat.{ℕ, suc, _+_, _≤_, _<_}
 use native.Mathlib.Omega.{arith}
 use mathlib.Core.Bool.{Bool, false}
 use mathlib.Core.List.{List, [], _∷_, _++_, append-assoc}
@@ -40,7 +40,8 @@ pub record Form (A : Type 0) : Type 1 where
 -- every text begins with nothing
 pub begins-none : {A : Type 0} {Valid : A → Type 0} {text : A → List ℕ} (a : A) → Valid a → (t : List ℕ) (n : ℕ) → n ≡ 0
     → (n ≤ length t) × Begins Valid text (take n t)
-begins-none {text = text} a v t n e = (omega arith, record { value = a; well-formed = v; more = text a; goes-on = ap (λ (k : ℕ). take k t ++ text a) (sym e) })
+begins-none {text = text} a v t n e =
+    (omega arith, record { value = a; well-formed = v; more = text a; goes-on = ap (λ (k : ℕ). take k t ++ text a) (sym e) })
 
 pub any : (r : List ℕ) → Next (λ b. Unit {0}) r
 any [] = tt

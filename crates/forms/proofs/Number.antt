@@ -3,8 +3,8 @@ use Prim.Native.Nat.{ℕ, zero, suc, _+_, _*_, _-_, _/_, _%_, _≤_, _<_}
 use native.Mathlib.Omega.{arith}
 use mathlib.Core.Bool.{Bool, true, false, cond, _&&_}
 use mathlib.Core.List.{List, [], _∷_, _++_}
-use mathlib.Core.Path.{_≡_, refl, sym, ap, ap₂, _∙_, subst}
-use borrow.Author.Tests.{le-leb, lt-ltb, leb-true, ltb-true, leb-false, ltb-false}
+use mathlib.Core.Path.{_≡_, refl, sym, ap, _∙_, subst}
+use borrow.Author.Tests.{le-leb, lt-ltb, leb-true, ltb-true}
 use lib.Dec.{leb, ltb}
 use lib.ListN.{length, take}
 use lib.Seq.{append-snoc}
@@ -97,7 +97,8 @@ module _ (least : ℕ) (small : least ≤ 1) where
   digits-parsed : (n : ℕ) → Number least n → (s : List ℕ) → number-parse least (digits n ++ s) ≡ further n s
   digits-parsed = by-digits (λ n. Number least n → (s : List ℕ) → number-parse least (digits n ++ s) ≡ further n s) few more
     where
-      more : (n : ℕ) → 10 ≤ n → (Number least (n / 10) → (s : List ℕ) → number-parse least (digits (n / 10) ++ s) ≡ further (n / 10) s) → Number least n → (s : List ℕ)
+      more : (n : ℕ) → 10 ≤ n → (Number least (n / 10) → (s : List ℕ) → number-parse least (digits (n / 10) ++ s) ≡ further (n / 10) s)
+          → Number least n → (s : List ℕ)
           → number-parse least (digits n ++ s) ≡ further n s
       more n h ih v s =
           let z : n / 10 * 10 + n % 10 ≡ n = omega arith in
@@ -130,7 +131,8 @@ module _ (least : ℕ) (small : least ≤ 1) where
   digits-grown : (v b : ℕ) (s : List ℕ) → Goes v b → digits (v * 10 + (b - 48)) ++ s ≡ digits v ++ b ∷ s
   digits-grown v b s g =
       let z : 48 + (b - 48) ≡ b = omega (arith, g .low) in
-      ap (λ (l : List ℕ). l ++ s) (digits-next v (b - 48) (g .some) (omega (arith, g .low, g .high)) ∙ ap (λ (x : ℕ). digits v ++ x ∷ []) z) ∙ append-snoc (digits v) b s
+      ap (λ (l : List ℕ). l ++ s) (digits-next v (b - 48) (g .some) (omega (arith, g .low, g .high)) ∙ ap (λ (x : ℕ). digits v ++ x ∷ []) z)
+      ∙ append-snoc (digits v) b s
 
   -- what is parsed: a number whose digits stand in the text, and that does not go on
   record Parsed (t : List ℕ) (n : ℕ) (r : List ℕ) : Type 0 where
@@ -140,7 +142,8 @@ module _ (least : ℕ) (small : least ≤ 1) where
 
   at-end : (v : ℕ) (s : List ℕ) (n : ℕ) (r : List ℕ) → Number least v → Next (Ends v) s → parsed v s ≡ parsed n r → Parsed (digits v ++ s) n r
   at-end v s n r h q e =
-      subst (λ (k : ℕ). Parsed (digits v ++ s) k r) (same-value e) (subst (λ (l : List ℕ). Parsed (digits v ++ s) v l) (same-rest e) (record { number = h; same = refl; ends = q }))
+      subst (λ (k : ℕ). Parsed (digits v ++ s) k r) (same-value e)
+      (subst (λ (l : List ℕ). Parsed (digits v ++ s) v l) (same-rest e) (record { number = h; same = refl; ends = q }))
 
   further-sound : (s : List ℕ) (v n : ℕ) (r : List ℕ) → Number least v → further v s ≡ parsed n r → Parsed (digits v ++ s) n r
   unfolding further
@@ -163,13 +166,16 @@ module _ (least : ℕ) (small : least ≤ 1) where
   number-parsed (b ∷ s) n r e = go (isFirst least b) refl e
     where
       go : (x : Bool) → isFirst least b ≡ x → cond x (further (b - 48) s) (stopped 0) ≡ parsed n r → Parsed (b ∷ s) n r
-      go true q i = subst (λ (t : List ℕ). Parsed t n r) (digits-first b s q) (further-sound s (b - 48) n r (omega (arith, first-low b q), omega (arith, first-high b q)) i)
+      go true q i =
+          subst (λ (t : List ℕ). Parsed t n r) (digits-first b s q)
+          (further-sound s (b - 48) n r (omega (arith, first-low b q), omega (arith, first-high b q)) i)
       go false q i = absurd (not-both (sym i))
 
   pub number-sound : (t : List ℕ) (n : ℕ) (r : List ℕ) → number-parse least t ≡ parsed n r → Number least n × (t ≡ digits n ++ r)
   number-sound t n r e = let w = number-parsed t n r e in (w .number, w .same)
 
-  pub number-ahead : (t : List ℕ) (n : ℕ) (r s : List ℕ) → number-parse least t ≡ parsed n r → take 1 s ≡ take 1 r → number-parse least (digits n ++ s) ≡ parsed n s
+  pub number-ahead : (t : List ℕ) (n : ℕ) (r s : List ℕ) → number-parse least t ≡ parsed n r → take 1 s ≡ take 1 r
+      → number-parse least (digits n ++ s) ≡ parsed n s
   number-ahead t n r s e h =
       let w = number-parsed t n r e in
       digits-parsed n (w .number) s ∙ further-none n s (next-same (Ends n) r s h (w .ends))
@@ -196,7 +202,8 @@ module _ (least : ℕ) (small : least ≤ 1) where
   pub number-viable : (t : List ℕ) (n : ℕ) → number-parse least t ≡ stopped n → (n ≤ length t) × Begins (Number least) digits (take n t)
   number-viable t n e = begins-none least (omega arith, omega arith) t n (number-stopped t n e .0)
 
-  pub number-stable : (t : List ℕ) (n : ℕ) (s : List ℕ) → number-parse least t ≡ stopped n → n < length t → number-parse least (take (suc n) t ++ s) ≡ stopped n
+  pub number-stable : (t : List ℕ) (n : ℕ) (s : List ℕ) → number-parse least t ≡ stopped n → n < length t
+      → number-parse least (take (suc n) t ++ s) ≡ stopped n
   unfolding number-parse
   number-stable [] n s e h = absurd (omega arith)
   number-stable (b ∷ t) n s e h = let w = number-stopped (b ∷ t) n e in rw (w .1) (ap (λ (k : ℕ). stopped k) (sym (w .0)))

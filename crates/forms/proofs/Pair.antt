@@ -1,7 +1,7 @@
 -- A form, and then another. Assumes nothing.
 use Prim.Native.Nat.{ℕ, suc, _≤_, _<_}
 use native.Mathlib.Omega.{arith}
-use mathlib.Core.List.{List, [], _∷_, _++_, append-assoc}
+use mathlib.Core.List.{List, _++_, append-assoc}
 use mathlib.Core.Path.{_≡_, refl, sym, ap, _∙_, subst}
 use lib.ListN.{length, take}
 use Rattle.forms.specs.Shape.{Begins}
@@ -36,7 +36,8 @@ module _ {A B : Type 0} (p : Form A) (q : Form B) where
           let l = after-parsed (length (p .text a)) (λ b. (a, b)) (q .parse s) f in
           let P = p .sound t a s i in
           let Q = q .sound s (l .0) r (l .1) in
-          let whole : t ≡ text (a, l .0) ++ r = P .1 ∙ ap (λ (z : List ℕ). p .text a ++ z) (Q .1) ∙ sym (append-assoc (p .text a) (q .text (l .0)) r) in
+          let whole : t ≡ text (a, l .0) ++ r =
+          P .1 ∙ ap (λ (z : List ℕ). p .text a ++ z) (Q .1) ∙ sym (append-assoc (p .text a) (q .text (l .0)) r) in
           subst (λ (z : A × B). Valid z × (t ≡ text z ++ r)) (l .2) ((P .0, Q .0), whole)
       go (stopped n) i f = absurd (not-both (sym f))
 
@@ -44,9 +45,11 @@ module _ {A B : Type 0} (p : Form A) (q : Form B) where
     pub complete : (x : A × B) (r : List ℕ) → Valid x → Next (q .May) r → then-parse (p .parse (text x ++ r)) ≡ parsed x r
     complete x r v h =
         ap (λ (t : List ℕ). then-parse (p .parse t)) (append-assoc (p .text (x .0)) (q .text (x .1)) r)
-        ∙ past-first (x .0) (q .text (x .1) ++ r) (parsed (x .1) r) (p .complete (x .0) (q .text (x .1) ++ r) (v .0) (follows (x .1) r (v .1) h)) (q .complete (x .1) r (v .1) h)
+        ∙ past-first (x .0) (q .text (x .1) ++ r) (parsed (x .1) r)
+        (p .complete (x .0) (q .text (x .1) ++ r) (v .0) (follows (x .1) r (v .1) h)) (q .complete (x .1) r (v .1) h)
 
-  pub ahead : (t : List ℕ) (x : A × B) (r s : List ℕ) → then-parse (p .parse t) ≡ parsed x r → take 1 s ≡ take 1 r → then-parse (p .parse (text x ++ s)) ≡ parsed x s
+  pub ahead : (t : List ℕ) (x : A × B) (r s : List ℕ) → then-parse (p .parse t) ≡ parsed x r → take 1 s ≡ take 1 r
+      → then-parse (p .parse (text x ++ s)) ≡ parsed x s
   ahead t x r s e h = go (p .parse t) refl e
     where
       go : (y : Parse A) → p .parse t ≡ y → then-parse y ≡ parsed x r → then-parse (p .parse (text x ++ s)) ≡ parsed x s
@@ -91,7 +94,8 @@ module _ {A B : Type 0} (p : Form A) (q : Form B) where
             },
           )
 
-  pub stable : (t : List ℕ) (n : ℕ) (s : List ℕ) → then-parse (p .parse t) ≡ stopped n → n < length t → then-parse (p .parse (take (suc n) t ++ s)) ≡ stopped n
+  pub stable : (t : List ℕ) (n : ℕ) (s : List ℕ) → then-parse (p .parse t) ≡ stopped n → n < length t
+      → then-parse (p .parse (take (suc n) t ++ s)) ≡ stopped n
   stable t n s e h = go (p .parse t) refl e
     where
       go : (y : Parse A) → p .parse t ≡ y → then-parse y ≡ stopped n → then-parse (p .parse (take (suc n) t ++ s)) ≡ stopped n

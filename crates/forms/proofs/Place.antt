@@ -1,13 +1,13 @@
 -- Forms at places of a text, as code parses them: from a place, or not at all where parsing has stopped before. Assumes nothing.
-use Prim.Native.Nat.{ℕ, zero, suc, _+_, _-_, _≤_, _<_}
+use Prim.Native.Nat.{ℕ, _+_, _-_, _≤_}
 use native.Mathlib.Omega.{arith}
 use mathlib.Core.Bool.{Bool, true, false, true≢false}
-use mathlib.Core.List.{List, [], _∷_, _++_}
-use mathlib.Core.Logic.{_⊎_, inl, inr}
+use mathlib.Core.List.{List, [], _∷_}
+use mathlib.Core.Logic.{inl, inr}
 use mathlib.Core.Path.{_≡_, refl, sym, ap, _∙_, subst}
 use lib.ListN.{length, drop, length-drop, length-append}
 use lib.Seq.{drop-drop}
-use Rattle.forms.proofs.Parse.{Parse, parsed, stopped, after}
+use Rattle.forms.proofs.Parse.{parsed, stopped, after}
 use Rattle.forms.proofs.Form.{Form, startsWith}
 use Rattle.forms.proofs.Pair.{pair, then-parse, Follows}
 use Rattle.forms.proofs.Either.{either, either-parse, Apart}
@@ -39,7 +39,15 @@ module _ {A : Type 0} (p : Form A) (t : List ℕ) where
 
   pub wide : {i e : ℕ} {a : A} → Found i a e → e ≡ i + length (p .text a)
   wide {i} {e} {a} f =
-      omega (arith, ap length (p .sound (drop i t) a (drop e t) (f .finds) .1), length-append (p .text a) (drop e t), length-drop i t, length-drop e t, f .from, f .to)
+      omega (
+        arith,
+        ap length (p .sound (drop i t) a (drop e t) (f .finds) .1),
+        length-append (p .text a) (drop e t),
+        length-drop i t,
+        length-drop e t,
+        f .from,
+        f .to,
+      )
 
   pub valid : {i e : ℕ} {a : A} → Found i a e → p .Valid a
   valid {i} {e} {a} f = p .sound (drop i t) a (drop e t) (f .finds) .0
@@ -92,7 +100,8 @@ module _ {A B : Type 0} (p : Form A) (q : Form B) (follows : Follows p q) (t : L
   stops-first : {i e : ℕ} → Stops p t i e → Stops (pair p q follows) t i e
   stops-first s = record { finds = ap (then-parse p q) (s .finds); from = s .from; to = s .to }
 
-  pub reads-both : (i : ℕ) (before : Bool) (a : A) (e : ℕ) (mid : Bool) (b : B) (g : ℕ) (stop : Bool) → Reads p t i before a e mid → Reads q t e mid b g stop
+  pub reads-both : (i : ℕ) (before : Bool) (a : A) (e : ℕ) (mid : Bool) (b : B) (g : ℕ) (stop : Bool) → Reads p t i before a e mid
+      → Reads q t e mid b g stop
       → Reads (pair p q follows) t i before (a, b) g stop
   reads-both i true a e mid b g stop x y = after-stop mid (x .1) y
     where
@@ -102,7 +111,8 @@ module _ {A B : Type 0} (p : Form A) (q : Form B) (follows : Follows p q) (t : L
   reads-both i false a e false b g false x y = found-both x y
   reads-both i false a e false b g true x y = stops-second x y
   reads-both i false a e true b g stop x y =
-      subst (λ (w : Bool). Gives (pair p q follows) t i (a, b) g w) (sym (y .1)) (subst (λ (k : ℕ). Stops (pair p q follows) t i k) (sym (y .0)) (stops-first x))
+      subst (λ (w : Bool). Gives (pair p q follows) t i (a, b) g w) (sym (y .1))
+      (subst (λ (k : ℕ). Stops (pair p q follows) t i k) (sym (y .0)) (stops-first x))
 
 -- said of another value
 module _ {A B : Type 0} (p : Form A) (f : A → B) (g : B → A) (Valid : B → Type 0) (text : B → List ℕ) (same : Same p f g Valid text) (t : List ℕ) where
@@ -129,7 +139,8 @@ module _ {A B : Type 0} (x : ℕ) (p : Form A) (q : Form B) (apart : Apart x q) 
   by-right [] h = refl
   by-right (b ∷ s) h = rw h
 
-  pub gives-left : (a : A) (e : ℕ) (stop : Bool) → startsWith x (drop i t) ≡ true → Gives p t (i + 1) a e stop → Gives (either x p q apart) t i (inl a) e stop
+  pub gives-left : (a : A) (e : ℕ) (stop : Bool) → startsWith x (drop i t) ≡ true → Gives p t (i + 1) a e stop
+      → Gives (either x p q apart) t i (inl a) e stop
   gives-left a e stop h g = go stop g
     where
       starts : either-parse x p q (drop i t) ≡ after 1 (λ a. inl a) (p .parse (drop (i + 1) t))
@@ -141,7 +152,8 @@ module _ {A B : Type 0} (x : ℕ) (p : Form A) (q : Form B) (apart : Apart x q) 
           let z : 1 + (e - (i + 1)) ≡ e - i = omega (arith, g .from) in
           record { finds = starts ∙ ap (after 1 (λ a. inl a)) (g .finds) ∙ ap (λ (n : ℕ). stopped n) z; from = omega (arith, g .from); to = g .to }
 
-  pub gives-right : (b : B) (e : ℕ) (stop : Bool) → startsWith x (drop i t) ≡ false → Gives q t i b e stop → Gives (either x p q apart) t i (inr b) e stop
+  pub gives-right : (b : B) (e : ℕ) (stop : Bool) → startsWith x (drop i t) ≡ false → Gives q t i b e stop
+      → Gives (either x p q apart) t i (inr b) e stop
   gives-right b e stop h g = go stop g
     where
       go : (stop : Bool) → Gives q t i b e stop → Gives (either x p q apart) t i (inr b) e stop

@@ -1,11 +1,11 @@
 -- Items at places of a text, one after the other, as a loop parses them. Assumes nothing.
-use Prim.Native.Nat.{ℕ, zero, suc, _+_, _-_, _≤_, _<_}
+use Prim.Native.Nat.{ℕ, suc, _+_, _-_, _≤_, _<_}
 use native.Mathlib.Omega.{arith}
 use mathlib.Core.Bool.{Bool, true, false, not, _&&_, true≢false}
 use mathlib.Core.List.{List, [], _∷_, _++_, append-assoc, append-nil}
 use mathlib.Core.Path.{_≡_, refl, sym, ap, _∙_, subst}
 use borrow.Author.Tests.{eqb-true, eqb-false}
-use lib.ListN.{length, drop, length-drop, length-append}
+use lib.ListN.{length, drop, length-drop}
 use Rattle.lists.specs.Joined.{joined}
 use Rattle.forms.proofs.Parse.{Parse, parsed, stopped, after}
 use Rattle.forms.proofs.Form.{Form, startsWith}
@@ -29,19 +29,24 @@ module _ {A : Type 0} (x : ℕ) (p : Form A) (heads : Headed x p) (again : p .Ma
       → (k : ℕ) × (length (drop i t) ≡ suc k) × (M .parse (drop i t) ≡ then-more x p (λ r. many-within x p k r) y)
   item-first i y h e = go (drop i t) h e
     where
-      go : (s : List ℕ) → startsWith x s ≡ true → p .parse s ≡ y → (k : ℕ) × (length s ≡ suc k) × (M .parse s ≡ then-more x p (λ r. many-within x p k r) y)
+      go : (s : List ℕ) → startsWith x s ≡ true → p .parse s ≡ y
+          → (k : ℕ) × (length s ≡ suc k) × (M .parse s ≡ then-more x p (λ r. many-within x p k r) y)
       go [] h e = absurd (true≢false (sym h))
       go (b ∷ s) h e = (length s, refl, with-item x p heads (length s) b s y (eqb-true b x h) e)
 
-  then-others : (i e : ℕ) (a : A) → startsWith x (drop i t) ≡ true → Found p t i a e → M .parse (drop i t) ≡ after (length (p .text a)) (λ xs. a ∷ xs) (M .parse (drop e t))
+  then-others : (i e : ℕ) (a : A) → startsWith x (drop i t) ≡ true → Found p t i a e
+      → M .parse (drop i t) ≡ after (length (p .text a)) (λ xs. a ∷ xs) (M .parse (drop e t))
   then-others i e a h f =
       let g = item-first i (parsed a (drop e t)) h (f .finds) in
       let shorter : length (drop e t) ≤ g .0 = omega (arith, g .1, length-drop i t, length-drop e t, moves f, f .to) in
       g .2 ∙ ap (after (length (p .text a)) (λ xs. a ∷ xs)) (enough x p heads (g .0) (length (drop e t)) (drop e t) shorter (omega arith))
 
-  more-items : (i : ℕ) (a : A) (e : ℕ) (mid : Bool) (xs : List A) (g : ℕ) (stop : Bool) → startsWith x (drop i t) ≡ true → Gives p t i a e mid → Reads M t e mid xs g stop
+  more-items : (i : ℕ) (a : A) (e : ℕ) (mid : Bool) (xs : List A) (g : ℕ) (stop : Bool) → startsWith x (drop i t) ≡ true
+      → Gives p t i a e mid → Reads M t e mid xs g stop
       → Gives M t i (a ∷ xs) g stop
-  more-items i a e false xs g false h f m = record { finds = then-others i e a h f ∙ ap (after (length (p .text a)) (λ ys. a ∷ ys)) (m .finds); from = omega (arith, f .from, m .from); to = m .to }
+  more-items i a e false xs g false h f m =
+      record
+      { finds = then-others i e a h f ∙ ap (after (length (p .text a)) (λ ys. a ∷ ys)) (m .finds); from = omega (arith, f .from, m .from); to = m .to }
   more-items i a e false xs g true h f m =
       let z : length (p .text a) + (g - e) ≡ g - i = omega (arith, wide p t f, m .from) in
       record {
@@ -94,7 +99,8 @@ module _ {A : Type 0} (x : ℕ) (p : Form A) (heads : Headed x p) (again : p .Ma
       within = reads-within p t e stop a g last (run .within) item;
       goes-on = λ ys f end m.
           subst (λ (zs : List A). Reads M t i before zs f end) (sym (append-assoc xs (a ∷ []) ys))
-          (run .goes-on (a ∷ ys) f end (subst (λ (w : Bool). Reads M t e w (a ∷ ys) f end) (sym going) (more-items e a g last ys f end begins gives m)));
+          (run .goes-on (a ∷ ys) f end
+          (subst (λ (w : Bool). Reads M t e w (a ∷ ys) f end) (sym going) (more-items e a g last ys f end begins gives m)));
     }
 
     -- an item takes a byte, or it is broken off
@@ -105,7 +111,8 @@ module _ {A : Type 0} (x : ℕ) (p : Form A) (heads : Headed x p) (again : p .Ma
     item-moves q = moves (reads-found p t e stop a g last q item .1)
 
   -- and that none does
-  pub run-done : (i : ℕ) (before : Bool) (xs : List A) (e : ℕ) (stop : Bool) → Run i before xs e stop → not stop && startsWith x (drop e t) ≡ false → Reads M t i before xs e stop
+  pub run-done : (i : ℕ) (before : Bool) (xs : List A) (e : ℕ) (stop : Bool) → Run i before xs e stop
+      → not stop && startsWith x (drop e t) ≡ false → Reads M t i before xs e stop
   run-done i before xs e stop run h = subst (λ (zs : List A). Reads M t i before zs e stop) (append-nil xs) (run .goes-on [] e stop (go stop refl h))
     where
       go : (w : Bool) → stop ≡ w → not w && startsWith x (drop e t) ≡ false → Reads M t e stop [] e stop
@@ -113,8 +120,10 @@ module _ {A : Type 0} (x : ℕ) (p : Form A) (heads : Headed x p) (again : p .Ma
       go false q h = subst (λ (w : Bool). Reads M t e w [] e w) (sym q) (no-items e (run .within) h)
 
   -- one item, and then the others
-  pub first-then : (i : ℕ) (before : Bool) (a : A) (e : ℕ) (mid : Bool) (xs : List A) (g : ℕ) (stop : Bool) → Reads p t i before a e mid → Reads M t e mid xs g stop
+  pub first-then : (i : ℕ) (before : Bool) (a : A) (e : ℕ) (mid : Bool) (xs : List A) (g : ℕ) (stop : Bool) → Reads p t i before a e mid
+      → Reads M t e mid xs g stop
       → Reads S t i before (a ∷ xs) g stop
   first-then i before a e mid xs g stop r m =
-      reads-via (first-and-more x p heads again) (listed x p heads again) (split x p heads again) (OneOrMore x p heads again) (joined (p .text)) (same-items x p heads again) t i before (a, xs) g stop
+      reads-via (first-and-more x p heads again) (listed x p heads again) (split x p heads again) (OneOrMore x p heads again)
+      (joined (p .text)) (same-items x p heads again) t i before (a, xs) g stop
       (reads-both p M (item-follows x p heads again) t i before a e mid xs g stop r m)

@@ -1,14 +1,13 @@
 -- A number that may have `-` before it, never before 0. Assumes nothing.
 use Prim.Native.Nat.{ℕ, zero, suc, _≤_, _<_}
 use native.Mathlib.Omega.{arith}
-use mathlib.Core.List.{List, _∷_}
 use mathlib.Core.Logic.{_⊎_, inl, inr}
 use mathlib.Core.Path.{_≡_, refl}
 use lib.IntN.{ℤ, pos, negsuc, negℤ, natAbs}
-use Rattle.forms.specs.Digits.{digits, signedDigits}
+use Rattle.forms.specs.Digits.{signedDigits}
 use Rattle.forms.proofs.Digits.{first}
 use Rattle.forms.proofs.Form.{Form}
-use Rattle.forms.proofs.Number.{number, Number}
+use Rattle.forms.proofs.Number.{number}
 use Rattle.forms.proofs.Either.{either, Apart}
 use Rattle.forms.proofs.Via.{via, Same}
 

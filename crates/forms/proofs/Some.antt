@@ -6,7 +6,7 @@ use mathlib.Core.Path.{_≡_, refl, ap}
 use lib.ListN.{length}
 use Rattle.lists.specs.All.{All}
 use Rattle.lists.specs.Joined.{joined}
-use Rattle.forms.proofs.Form.{Form, Next}
+use Rattle.forms.proofs.Form.{Form}
 use Rattle.forms.proofs.Pair.{pair, Follows}
 use Rattle.forms.proofs.Via.{via, Same}
 use Rattle.forms.proofs.Many.{Headed, many, first-may}

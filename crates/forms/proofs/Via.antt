@@ -2,7 +2,7 @@
 use Prim.Native.Nat.{ℕ, suc, _+_, _≤_, _<_}
 use native.Mathlib.Omega.{arith}
 use mathlib.Core.List.{List, _++_}
-use mathlib.Core.Path.{_≡_, refl, sym, ap, _∙_, subst}
+use mathlib.Core.Path.{_≡_, sym, ap, _∙_, subst}
 use lib.ListN.{length, take}
 use Rattle.forms.specs.Shape.{Begins}
 use Rattle.forms.proofs.Parse.{Parse, parsed, stopped, after, after-parsed, after-stopped}
@@ -24,19 +24,23 @@ module _ {A B : Type 0} (p : Form A) (f : A → B) (g : B → A) (Valid : B → 
 
   pub via-complete : (b : B) (r : List ℕ) → Valid b → Next (p .May) r → via-parse (text b ++ r) ≡ parsed b r
   via-complete b r v h =
-      ap (λ (s : List ℕ). via-parse (s ++ r)) (via-text b v) ∙ ap (after 0 f) (p .complete (g b) r (same .to-valid b v) h) ∙ ap (λ (z : B). parsed z r) (same .back b v)
+      ap (λ (s : List ℕ). via-parse (s ++ r)) (via-text b v)
+      ∙ ap (after 0 f) (p .complete (g b) r (same .to-valid b v) h)
+      ∙ ap (λ (z : B). parsed z r) (same .back b v)
 
   pub via-sound : (t : List ℕ) (b : B) (r : List ℕ) → via-parse t ≡ parsed b r → Valid b × (t ≡ text b ++ r)
   via-sound t b r e =
       let l = after-parsed 0 f (p .parse t) e in
       let P = p .sound t (l .0) r (l .1) in
-      subst (λ (z : B). Valid z × (t ≡ text z ++ r)) (l .2) (same .from-valid (l .0) (P .0), P .1 ∙ ap (λ (s : List ℕ). s ++ r) (sym (same .same-text (l .0) (P .0))))
+      subst (λ (z : B). Valid z × (t ≡ text z ++ r)) (l .2)
+      (same .from-valid (l .0) (P .0), P .1 ∙ ap (λ (s : List ℕ). s ++ r) (sym (same .same-text (l .0) (P .0))))
 
   pub via-ahead : (t : List ℕ) (b : B) (r s : List ℕ) → via-parse t ≡ parsed b r → take 1 s ≡ take 1 r → via-parse (text b ++ s) ≡ parsed b s
   via-ahead t b r s e h =
       let l = after-parsed 0 f (p .parse t) e in
       let v = p .sound t (l .0) r (l .1) .0 in
-      subst (λ (z : B). via-parse (text z ++ s) ≡ parsed z s) (l .2) (ap (λ (u : List ℕ). via-parse (u ++ s)) (same .same-text (l .0) v) ∙ ap (after 0 f) (p .ahead t (l .0) r s (l .1) h))
+      subst (λ (z : B). via-parse (text z ++ s) ≡ parsed z s) (l .2)
+      (ap (λ (u : List ℕ). via-parse (u ++ s)) (same .same-text (l .0) v) ∙ ap (after 0 f) (p .ahead t (l .0) r s (l .1) h))
 
   via-stopped : (t : List ℕ) (n : ℕ) → via-parse t ≡ stopped n → p .parse t ≡ stopped n
   via-stopped t n e =
@@ -47,8 +51,11 @@ module _ {A B : Type 0} (p : Form A) (f : A → B) (g : B → A) (Valid : B → 
   pub via-viable : (t : List ℕ) (n : ℕ) → via-parse t ≡ stopped n → (n ≤ length t) × Begins Valid text (take n t)
   via-viable t n e =
       let P = p .viable t n (via-stopped t n e) in
-      let b = P .1 in
-      (P .0, record { value = f (b .value); well-formed = same .from-valid (b .value) (b .well-formed); more = b .more; goes-on = same .same-text (b .value) (b .well-formed) ∙ b .goes-on })
+      let b = P .1 in (
+        P .0,
+        record
+            { value = f (b .value); well-formed = same .from-valid (b .value) (b .well-formed); more = b .more; goes-on = same .same-text (b .value) (b .well-formed) ∙ b .goes-on },
+      )
 
   pub via-stable : (t : List ℕ) (n : ℕ) (s : List ℕ) → via-parse t ≡ stopped n → n < length t → via-parse (take (suc n) t ++ s) ≡ stopped n
   via-stable t n s e h =

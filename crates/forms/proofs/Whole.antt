@@ -1,5 +1,5 @@
 -- A form as the shape of whole texts: every text has one reading, the parser's. Assumes nothing.
-use Prim.Native.Nat.{ℕ, zero, suc, _+_, _≤_, _<_}
+use Prim.Native.Nat.{ℕ, suc, _+_, _≤_, _<_}
 use native.Mathlib.Omega.{arith}
 use mathlib.Core.Bool.{Bool, true, false}
 use mathlib.Core.List.{List, [], _∷_, _++_, append-assoc, append-nil}
@@ -36,7 +36,8 @@ module _ {A : Type 0} (p : Form A) where
   }
 
   -- to be the longest it is enough that one byte more is too many
-  one-more : (t : List ℕ) (n : ℕ) → n ≤ length t → Begins (p .Valid) (p .text) (take n t) → (n < length t → Begins (p .Valid) (p .text) (take (suc n) t) → ⊥)
+  one-more : (t : List ℕ) (n : ℕ) → n ≤ length t → Begins (p .Valid) (p .text) (take n t)
+      → (n < length t → Begins (p .Valid) (p .text) (take (suc n) t) → ⊥)
       → Longest (p .Valid) (p .text) t n
   one-more t n h b none = record { within = h; begins = b; longest = λ m l c. go m l c (leb m n) refl }
     where
@@ -49,7 +50,8 @@ module _ {A : Type 0} (p : Form A) where
     pub stopped-longest : Longest (p .Valid) (p .text) t n
     stopped-longest =
         let v = p .viable t n e in
-        one-more t n (v .0) (v .1) (λ h b. not-both (sym (text-parsed (b .value) (b .well-formed)) ∙ ap (p .parse) (b .goes-on) ∙ p .stable t n (b .more) e h))
+        one-more t n (v .0) (v .1)
+        (λ h b. not-both (sym (text-parsed (b .value) (b .well-formed)) ∙ ap (p .parse) (b .goes-on) ∙ p .stable t n (b .more) e h))
 
     pub stopped-none : (a : A) → TextOf (p .Valid) (p .text) t a → ⊥
     stopped-none a it = not-both (sym (text-parsed a (it .well-formed)) ∙ ap (p .parse) (sym (it .is)) ∙ e)
@@ -64,8 +66,10 @@ module _ {A : Type 0} (p : Form A) where
     other b =
         let n = length (p .text a) in
         let one : suc n ≡ n + 1 = omega arith in
-        let front : take (suc n) t ≡ p .text a ++ c ∷ [] = ap (λ (k : ℕ). take k t) one ∙ ap (take (n + 1)) whole ∙ take-append-add (p .text a) (c ∷ r) 1 in
-        let joined : p .text (b .value) ≡ p .text a ++ c ∷ b .more = b .goes-on ∙ ap (λ (s : List ℕ). s ++ b .more) front ∙ append-assoc (p .text a) (c ∷ []) (b .more) in
+        let front : take (suc n) t ≡ p .text a ++ c ∷ [] =
+        ap (λ (k : ℕ). take k t) one ∙ ap (take (n + 1)) whole ∙ take-append-add (p .text a) (c ∷ r) 1 in
+        let joined : p .text (b .value) ≡ p .text a ++ c ∷ b .more =
+        b .goes-on ∙ ap (λ (s : List ℕ). s ++ b .more) front ∙ append-assoc (p .text a) (c ∷ []) (b .more) in
         let both = sym (text-parsed (b .value) (b .well-formed)) ∙ ap (p .parse) joined ∙ p .ahead t a (c ∷ r) (c ∷ b .more) e refl in
         omega (arith, ap length (same-rest both))
 
@@ -74,7 +78,8 @@ module _ {A : Type 0} (p : Form A) where
         let n = length (p .text a) in
         let l : length t ≡ n + length (c ∷ r) = ap length whole ∙ length-append (p .text a) (c ∷ r) in
         one-more t n (omega arith)
-        (record { value = a; well-formed = p .sound t a (c ∷ r) e .0; more = []; goes-on = sym (append-nil (p .text a)) ∙ ap (λ (s : List ℕ). s ++ []) (sym (ap (take n) whole ∙ take-append-seam (p .text a) (c ∷ r))) })
+        (record
+        { value = a; well-formed = p .sound t a (c ∷ r) e .0; more = []; goes-on = sym (append-nil (p .text a)) ∙ ap (λ (s : List ℕ). s ++ []) (sym (ap (take n) whole ∙ take-append-seam (p .text a) (c ∷ r))) })
         (λ h b. other b)
 
     pub ended-none : (b : A) → TextOf (p .Valid) (p .text) t b → ⊥
@@ -93,10 +98,12 @@ module _ {A : Type 0} (p : Form A) where
   module _ {C : Type 0} (f : A → C) (g : ℕ → C) (t : List ℕ) where
     pub answer-whole : (a : A) → TextOf (p .Valid) (p .text) t a → (x : Whole t) → answer (p .Valid) (p .text) f g x ≡ f a
     unfolding answer
-    answer-whole a it (of-shape b is) = ap f (same-value (sym (text-parsed b (is .well-formed)) ∙ ap (p .parse) (sym (is .is) ∙ it .is) ∙ text-parsed a (it .well-formed)))
+    answer-whole a it (of-shape b is) =
+        ap f (same-value (sym (text-parsed b (is .well-formed)) ∙ ap (p .parse) (sym (is .is) ∙ it .is) ∙ text-parsed a (it .well-formed)))
     answer-whole a it (not-of-shape n none is) = absurd (none a it)
 
-    pub answer-stopped : (n : ℕ) → ((a : A) → TextOf (p .Valid) (p .text) t a → ⊥) → Longest (p .Valid) (p .text) t n → (x : Whole t) → answer (p .Valid) (p .text) f g x ≡ g n
+    pub answer-stopped : (n : ℕ) → ((a : A) → TextOf (p .Valid) (p .text) t a → ⊥) → Longest (p .Valid) (p .text) t n → (x : Whole t)
+        → answer (p .Valid) (p .text) f g x ≡ g n
     unfolding answer
     answer-stopped n none it (of-shape b is) = absurd (none b is)
     answer-stopped n none it (not-of-shape m no-text is) =

@@ -1,15 +1,14 @@
 -- A fixed word. Assumes nothing.
-use Prim.Native.Nat.{ℕ, zero, suc, _+_, _≤_, _<_}
+use Prim.Native.Nat.{ℕ, suc, _+_, _≤_, _<_}
 use native.Mathlib.Omega.{arith}
 use mathlib.Core.Bool.{Bool, true, false, cond}
-use mathlib.Core.List.{List, [], _∷_, _++_, append-nil}
+use mathlib.Core.List.{List, [], _∷_, _++_}
 use mathlib.Core.Path.{_≡_, refl, sym, ap, ap₂, _∙_}
 use borrow.Author.Tests.{eq-eqb, eqb-true}
 use lib.Dec.{eqb}
 use lib.ListN.{length, take}
-use Rattle.forms.specs.Shape.{Begins}
 use Rattle.forms.proofs.Parse.{Parse, parsed, stopped, not-both, same-place, same-rest, after, after-parsed, after-stopped}
-use Rattle.forms.proofs.Form.{Form, any, begins-none}
+use Rattle.forms.proofs.Form.{Form}
 
 abbrev pub on : Parse (Unit {0}) → Parse (Unit {0})
 on = after 1 (λ x. x)
@@ -30,7 +29,8 @@ word-sound [] t r a e = same-rest e
 word-sound (c ∷ w) [] r a e = absurd (not-both (sym e))
 word-sound (c ∷ w) (b ∷ t) r a e = go (word-sound w t r) (eqb b c) refl e
   where
-    go : ((a : Unit {0}) → word-parse w t ≡ parsed a r → t ≡ w ++ r) → (x : Bool) → eqb b c ≡ x → cond x (on (word-parse w t)) (stopped 0) ≡ parsed a r
+    go : ((a : Unit {0}) → word-parse w t ≡ parsed a r → t ≡ w ++ r) → (x : Bool) → eqb b c ≡ x
+        → cond x (on (word-parse w t)) (stopped 0) ≡ parsed a r
         → b ∷ t ≡ c ∷ (w ++ r)
     go ih true q i = let l = after-parsed 1 (λ x. x) (word-parse w t) i in ap₂ (λ (x : ℕ) (y : List ℕ). x ∷ y) (eqb-true b c q) (ih (l .0) (l .1))
     go ih false q i = absurd (not-both (sym i))
@@ -62,7 +62,8 @@ word-stable [] t n s e h = absurd (not-both e)
 word-stable (c ∷ w) [] n s e h = absurd (omega arith)
 word-stable (c ∷ w) (b ∷ t) n s e h = go (word-stable w t) (eqb b c) refl e
   where
-    go : ((m : ℕ) (s : List ℕ) → word-parse w t ≡ stopped m → m < length t → word-parse w (take (suc m) t ++ s) ≡ stopped m) → (x : Bool) → eqb b c ≡ x
+    go : ((m : ℕ) (s : List ℕ) → word-parse w t ≡ stopped m → m < length t → word-parse w (take (suc m) t ++ s) ≡ stopped m) → (x : Bool)
+        → eqb b c ≡ x
         → cond x (on (word-parse w t)) (stopped 0) ≡ stopped n → cond (eqb b c) (on (word-parse w (take n t ++ s))) (stopped 0) ≡ stopped n
     go ih true q i =
         let m = after-stopped 1 (λ x. x) (word-parse w t) i in

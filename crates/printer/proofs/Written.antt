@@ -45,7 +45,8 @@ module _ (out : List ℕ) (at : ℕ) (a : List ℕ) (room : at + length a ≤ le
   pub written-append : (b : List ℕ) → written (written out at a) (at + length a) b ≡ written out at (a ++ b)
   unfolding written
   written-append b =
-      let both : at + length a + length b ≡ at + length (a ++ b) = add-assoc at (length a) (length b) ∙ ap (λ (n : ℕ). at + n) (sym (length-append a b)) in
+      let both : at + length a + length b ≡ at + length (a ++ b) =
+      add-assoc at (length a) (length b) ∙ ap (λ (n : ℕ). at + n) (sym (length-append a b)) in
       ap₂ (λ (x y : List ℕ). x ++ (b ++ y)) up-to (past (length b) ∙ ap (λ (n : ℕ). drop n out) both)
       ∙ append-assoc (take at out) a (b ++ drop (at + length (a ++ b)) out)
       ∙ ap (λ (x : List ℕ). take at out ++ x) (sym (append-assoc a b (drop (at + length (a ++ b)) out)))

@@ -1,11 +1,10 @@
 -- What a parsed text is answered. Assumes nothing.
-use Prim.Native.Nat.{ℕ, suc, _+_, _-_, _≤_, _<_}
+use Prim.Native.Nat.{ℕ, suc, _-_, _≤_, _<_}
 use native.Mathlib.Omega.{arith}
-use mathlib.Core.Bool.{Bool, true, false, cond}
-use mathlib.Core.List.{List, [], _∷_}
-use mathlib.Core.Path.{_≡_, refl, sym, ap, ap₂, _∙_}
+use mathlib.Core.Bool.{Bool, cond}
+use mathlib.Core.List.{List}
+use mathlib.Core.Path.{_≡_, sym, ap, ap₂, _∙_}
 use borrow.Author.Tests.{le-leb, lt-leb}
-use lib.Dec.{leb}
 use lib.ListN.{length, drop, getD, drop-of-length-le}
 use lib.Seq.{drop-cons}
 use Rattle.refusal.specs.Checks.{whenAccepted}
@@ -45,7 +44,8 @@ module _ (t : List ℕ) where
     read-stopped e s =
         let z : e - 0 ≡ e = omega arith in
         let q = s .finds ∙ ap (λ (n : ℕ). stopped n) z in
-        by-answer (refusedAnswer Shape e) (answer-stopped book bookAnswer (refusedAnswer Shape) t e (stopped-none book t e q) (stopped-longest book t e q) (book-reading t))
+        by-answer (refusedAnswer Shape e)
+        (answer-stopped book bookAnswer (refusedAnswer Shape) t e (stopped-none book t e q) (stopped-longest book t e q) (book-reading t))
 
     -- a book was parsed, and the text goes on
     pub read-ended : (b : BookEntries) (e : ℕ) → Found book t 0 b e → e < length t → refusedAnswer Shape e ≡ readOf t
@@ -55,24 +55,29 @@ module _ (t : List ℕ) where
         let z : n ≡ e = omega (arith, wide book t f) in
         ap (refusedAnswer Shape) (sym z)
         ∙ by-answer (refusedAnswer Shape n)
-        (answer-stopped book bookAnswer (refusedAnswer Shape) t n (ended-none book t b (getD t e 0) (drop (suc e) t) q) (ended-longest book t b (getD t e 0) (drop (suc e) t) q) (book-reading t))
+        (answer-stopped book bookAnswer (refusedAnswer Shape) t n (ended-none book t b (getD t e 0) (drop (suc e) t) q)
+        (ended-longest book t b (getD t e 0) (drop (suc e) t) q) (book-reading t))
 
     -- the text is a book's
     pub read-whole : (b : BookEntries) (e : ℕ) → Found book t 0 b e → length t ≤ e → bookAnswer b ≡ readOf t
     read-whole b e f h =
         by-answer (bookAnswer b)
-        (answer-whole book bookAnswer (refusedAnswer Shape) t b (parsed-text book t b (f .finds ∙ ap (λ (r : List ℕ). parsed b r) (drop-of-length-le t h))) (book-reading t))
+        (answer-whole book bookAnswer (refusedAnswer Shape) t b
+        (parsed-text book t b (f .finds ∙ ap (λ (r : List ℕ). parsed b r) (drop-of-length-le t h))) (book-reading t))
 
 -- what the record's verdict gives
-pub answer-refused : (b : BookEntries) (r : Book) (verdict : Verdict) (rule : Rule) (line : ℕ) → r ≡ bookRecord b → verdict ≡ bookVerdict (bookEntries r) → verdict ≡ Refused rule line
+pub answer-refused : (b : BookEntries) (r : Book) (verdict : Verdict) (rule : Rule) (line : ℕ) → r ≡ bookRecord b
+    → verdict ≡ bookVerdict (bookEntries r) → verdict ≡ Refused rule line
     → refusedAnswer rule line ≡ bookAnswer b
 unfolding bookAnswer
 answer-refused b r verdict rule line k e q =
-    ap (λ (v : Verdict). record { verdict = v; book = whenAccepted v (bookRecord b) emptyBook }) (sym q ∙ e ∙ ap (λ (x : Book). bookVerdict (bookEntries x)) k)
+    ap (λ (v : Verdict). record { verdict = v; book = whenAccepted v (bookRecord b) emptyBook })
+    (sym q ∙ e ∙ ap (λ (x : Book). bookVerdict (bookEntries x)) k)
 
 pub answer-accepted : (b : BookEntries) (r : Book) (verdict : Verdict) → r ≡ bookRecord b → verdict ≡ bookVerdict (bookEntries r) → verdict ≡ Accepted
     → record { verdict = verdict; book = r } ≡ bookAnswer b
 unfolding bookAnswer
 answer-accepted b r verdict k e q =
     ap₂ (λ (v : Verdict) (x : Book). record { verdict = v; book = x }) q k
-    ∙ ap (λ (v : Verdict). record { verdict = v; book = whenAccepted v (bookRecord b) emptyBook }) (sym q ∙ e ∙ ap (λ (x : Book). bookVerdict (bookEntries x)) k)
+    ∙ ap (λ (v : Verdict). record { verdict = v; book = whenAccepted v (bookRecord b) emptyBook })
+    (sym q ∙ e ∙ ap (λ (x : Book). bookVerdict (bookEntries x)) k)

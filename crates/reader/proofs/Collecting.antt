@@ -21,7 +21,8 @@ module _ {A R : Type 0} (x : ℕ) (p : Form A) (heads : Headed x p) (again : p .
     pub fewer : stop ≡ false → count r ≤ e
 
   -- after the first item
-  pub collected-first : (r : R) (i : ℕ) (before : Bool) (a : A) (e : ℕ) (stop : Bool) → i ≤ length t → Reads p t i before a e stop → count r ≡ 1 → Collected r e stop r e stop
+  pub collected-first : (r : R) (i : ℕ) (before : Bool) (a : A) (e : ℕ) (stop : Bool) → i ≤ length t → Reads p t i before a e stop
+      → count r ≡ 1 → Collected r e stop r e stop
   collected-first r i before a e stop l item one = record {
     items = [];
     run = run-start x p heads again t e stop (reads-within p t i before a e stop l item);
@@ -46,19 +47,22 @@ module _ {A R : Type 0} (x : ℕ) (p : Form A) (heads : Headed x p) (again : p .
         }
 
     -- and none more: all items of the list
-    pub collected-done : not stop && startsWith x (drop e t) ≡ false → (j : ℕ) (start : Bool) (a : A) → Reads p t j start a i before → r₀ ≡ keep (a ∷ [])
+    pub collected-done : not stop && startsWith x (drop e t) ≡ false → (j : ℕ) (start : Bool) (a : A) → Reads p t j start a i before
+        → r₀ ≡ keep (a ∷ [])
         → (xs : List A) × (r ≡ keep xs) × Reads (some-of x p heads again) t j start xs e stop
     collected-done test j start a item first = (
       a ∷ so-far .items,
       so-far .kept (a ∷ []) first,
-      first-then x p heads again t j start a i before (so-far .items) e stop item (run-done x p heads again t i before (so-far .items) e stop (so-far .run) test),
+      first-then x p heads again t j start a i before (so-far .items) e stop item
+          (run-done x p heads again t i before (so-far .items) e stop (so-far .run) test),
     )
 
   -- what falls from item to item
   abbrev pub left : ℕ → Bool → ℕ
   left e stop = length t - e + cond stop 0 1
 
-  pub left-falls : (e : ℕ) (stop : Bool) → e ≤ length t → not stop && startsWith x (drop e t) ≡ true → (a : A) (g : ℕ) (last : Bool) → Reads p t e stop a g last → left g last < left e stop
+  pub left-falls : (e : ℕ) (stop : Bool) → e ≤ length t → not stop && startsWith x (drop e t) ≡ true → (a : A) (g : ℕ) (last : Bool)
+      → Reads p t e stop a g last → left g last < left e stop
   left-falls e stop l test a g last item = go last refl (reads-within p t e stop a g last l item)
     where
       going : stop ≡ false

@@ -1,6 +1,5 @@
 -- A record with one entry more, where it holds a list of entries. Assumes nothing.
-use Prim.Native.Nat.{ℕ, suc, _+_, _≤_, _<_}
-use native.Mathlib.Omega.{arith}
+use Prim.Native.Nat.{ℕ, _+_}
 use mathlib.Core.Bool.{Bool, true, false, cond}
 use mathlib.Core.List.{List, [], _∷_, _++_, map}
 use mathlib.Core.Path.{_≡_, refl, sym, ap, ap₂, _∙_}
@@ -26,7 +25,8 @@ added-held n blank xs x = go (ltb (length xs) n) refl
 one-more : {A : Type 0} (xs : List A) (x : A) → length xs + 1 ≡ length (xs ++ x ∷ [])
 one-more xs x = sym (length-append xs (x ∷ []))
 
-pub segment-kept : (bidder : ℕ) (r : Bid) (s : Segment) (xs : List Segment) → r ≡ bidRecord (bidOf bidder xs) → withSegment r s ≡ bidRecord (bidOf bidder (xs ++ s ∷ []))
+pub segment-kept : (bidder : ℕ) (r : Bid) (s : Segment) (xs : List Segment) → r ≡ bidRecord (bidOf bidder xs)
+    → withSegment r s ≡ bidRecord (bidOf bidder (xs ++ s ∷ []))
 unfolding bidRecord
 segment-kept bidder r s xs e =
     ap (λ (b : Bid). withSegment b s) e
@@ -42,7 +42,9 @@ unfolding bookRecord
 bid-kept demand r b xs e =
     let bids = map bidRecord xs in
     let stored : added 8 (held 8 emptyBid bids) (length xs) (bidRecord b) ≡ held 8 emptyBid (map bidRecord (xs ++ b ∷ [])) =
-    ap (λ (n : ℕ). added 8 (held 8 emptyBid bids) n (bidRecord b)) (sym (length-map xs bidRecord)) ∙ added-held 8 emptyBid bids (bidRecord b) ∙ ap (held 8 emptyBid) (map-more bidRecord xs b) in
+    ap (λ (n : ℕ). added 8 (held 8 emptyBid bids) n (bidRecord b)) (sym (length-map xs bidRecord))
+    ∙ added-held 8 emptyBid bids (bidRecord b)
+    ∙ ap (held 8 emptyBid) (map-more bidRecord xs b) in
     ap (λ (k : Book). withBid k (bidRecord b)) e
     ∙ ap₂ (λ (n : ℕ) (bs : List Bid). record { demand = record { 0 = demand }; count = n; bids = bs }) (one-more xs b) stored
 
@@ -63,7 +65,8 @@ bidCount b = b .count
 module _ (bidder : ℕ) (zeros : Bid) (s : Segment) (r : Bid) (is-empty : zeros ≡ emptyBid) (stored : r ≡ withSegment (record { bidder = bidder; count = zeros .count; segments = zeros .segments }) s) where
   pub first-segment : r ≡ segmentsKept bidder (s ∷ [])
   unfolding bidRecord
-  first-segment = stored ∙ segment-kept bidder _ s [] (ap (λ (b : Bid). record { bidder = bidder; count = b .count; segments = b .segments }) is-empty)
+  first-segment =
+      stored ∙ segment-kept bidder _ s [] (ap (λ (b : Bid). record { bidder = bidder; count = b .count; segments = b .segments }) is-empty)
 
   pub one-segment : r .count ≡ 1
   unfolding bidRecord

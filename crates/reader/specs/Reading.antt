@@ -29,4 +29,6 @@ bookAnswer b =
 
 -- any text: refused by its length, or answered by what it is, a book's text or not of the shape
 unfoldable pub readOf : List ℕ → BookRead
-readOf t = cond (leb (length t) 4096) (answer WellFormedBook bookText bookAnswer (refusedAnswer Shape) (book-reading t)) (refusedAnswer TextLength 4096)
+readOf t =
+    cond (leb (length t) 4096) (answer WellFormedBook bookText bookAnswer (refusedAnswer Shape) (book-reading t))
+    (refusedAnswer TextLength 4096)

@@ -1,5 +1,4 @@
 // The lines of a book: the demand, and the bids.
-ghost use mathlib.Core.Path.{_≡_};
 ghost use Prim.Native.Nat.{_≤_};
 ghost use lib.ListN.{length};
 ghost use Rattle.reader.specs.Parses.{ParsesBid, ParsesBids, ParsesBook};

@@ -1,5 +1,4 @@
 // The segments of a bid.
-ghost use mathlib.Core.Path.{_≡_};
 ghost use Prim.Native.Nat.{_≤_};
 ghost use lib.ListN.{length};
 ghost use Rattle.scanner.specs.Scans.{Scans};

@@ -1,9 +1,9 @@
 -- Demand 2: a book written out reads back as the same book, and an accepted text written out again is the same text. Assumes nothing.
 use Prim.Native.Nat.{ℕ, _+_, _≤_}
 use native.Mathlib.Omega.{arith}
-use mathlib.Core.List.{List, [], _∷_, _++_}
+use mathlib.Core.List.{List, [], _∷_}
 use mathlib.Core.Path.{_≡_, refl, sym, ap, _∙_, subst}
-use borrow.Author.Tests.{le-leb, leb-true}
+use borrow.Author.Tests.{le-leb}
 use lib.Dec.{leb}
 use lib.ListN.{length, take, drop}
 use lib.Seq.{take-append-seam}
@@ -11,22 +11,21 @@ use Rattle.refusal.specs.Checks.{unless}
 use Rattle.refusal.specs.declared.Rule.the-variants.{OutputLength}
 use Rattle.refusal.specs.declared.Verdict.{Verdict}
 use Rattle.refusal.specs.declared.Verdict.the-variants.{Accepted}
-use Rattle.refusal.proofs.Firsts.{first-passed, rest-passed, test-holds}
+use Rattle.refusal.proofs.Firsts.{first-passed}
 use Rattle.book.specs.declared.Book.{Book}
 use Rattle.book.specs.Entries.{BookEntries, bookEntries, SameBook}
 use Rattle.book.specs.Rules.{bookVerdict}
 use Rattle.book.specs.Room.{roomOf}
 use Rattle.booktext.specs.BookText.{bookText}
-use Rattle.booktext.specs.Record.{bookRecord, emptyBook}
+use Rattle.booktext.specs.Record.{bookRecord}
 use Rattle.booktext.specs.Arrays.{Arrays}
 use Rattle.booktext.proofs.Accepted.{well-formed, same-record}
 use Rattle.booktext.proofs.Records.{entries-of-record, record-arrays}
 use Rattle.booktext.proofs.Room.{room-bounds, text-short}
 use Rattle.printer.specs.Written.{written}
 use Rattle.reader.specs.declared.BookRead.{BookRead}
-use Rattle.reader.specs.Reading.{bookAnswer, readOf}
+use Rattle.reader.specs.Reading.{readOf}
 use Rattle.writer.specs.Writing.{textOf, writeVerdict, writeOf, outputOf}
-use Rattle.writer.specs.declared.BookWritten.{BookWritten}
 use Rattle.roundtrip.proofs.Reading.{ReadAs, accepted-as, text-read, answer-accepted}
 
 -- a record whose book is accepted
@@ -36,11 +35,15 @@ module _ (b : Book) (arrays : Arrays b) (accepted : bookVerdict (bookEntries b) 
       let e = bookEntries b in
       let it = well-formed b arrays accepted in
       let short : length (textOf b) ≤ 4096 = omega (arith, text-short e it accepted) in
-      text-read (textOf b) e short (record { well-formed = it; is = refl }) ∙ answer-accepted e (ap bookVerdict (same-record b arrays accepted) ∙ accepted)
+      text-read (textOf b) e short (record { well-formed = it; is = refl })
+      ∙ answer-accepted e (ap bookVerdict (same-record b arrays accepted) ∙ accepted)
 
   -- the text of an accepted record is accepted, and is read as the same book
   pub reads-back : (readOf (textOf b) .verdict ≡ Accepted) × SameBook (readOf (textOf b) .book) b
-  reads-back = (ap (λ (r : BookRead). r .verdict) read-record, ap (λ (r : BookRead). bookEntries (r .book)) read-record ∙ same-record b arrays accepted)
+  reads-back = (
+    ap (λ (r : BookRead). r .verdict) read-record,
+    ap (λ (r : BookRead). bookEntries (r .book)) read-record ∙ same-record b arrays accepted,
+  )
 
   -- the room figure bounds the text's length
   pub room-enough : length (textOf b) ≤ roomOf (bookEntries b) .bytes
@@ -63,9 +66,11 @@ module _ (b : Book) (out : List ℕ) (accepted : writeVerdict b (length out) ≡
 
 -- reading what was written gives the same book
 pub read-written : (b : Book) (out : List ℕ) → Arrays b → writeVerdict b (length out) ≡ Accepted
-    → (readOf (take (writeOf b (length out) .bytes) (outputOf b out)) .verdict ≡ Accepted) × SameBook (readOf (take (writeOf b (length out) .bytes) (outputOf b out)) .book) b
+    → (readOf (take (writeOf b (length out) .bytes) (outputOf b out)) .verdict ≡ Accepted) × SameBook
+    (readOf (take (writeOf b (length out) .bytes) (outputOf b out)) .book) b
 read-written b out arrays accepted =
-    subst (λ (t : List ℕ). (readOf t .verdict ≡ Accepted) × SameBook (readOf t .book) b) (sym (text-written b out accepted)) (reads-back b arrays (book-written b out accepted))
+    subst (λ (t : List ℕ). (readOf t .verdict ≡ Accepted) × SameBook (readOf t .book) b) (sym (text-written b out accepted))
+    (reads-back b arrays (book-written b out accepted))
 
 -- an accepted text
 module _ (t : List ℕ) (accepted : readOf t .verdict ≡ Accepted) where
@@ -106,5 +111,7 @@ module _ (t : List ℕ) (accepted : readOf t .verdict ≡ Accepted) where
 pub accepted-text : (t : List ℕ) → readOf t .verdict ≡ Accepted → (b : Book) × Arrays b × (bookVerdict (bookEntries b) ≡ Accepted) × (t ≡ textOf b)
 accepted-text t accepted = (readOf t .book, arrays-read t accepted, book-accepted t accepted, sym (same-text t accepted))
 
-pub text-accepted : (t : List ℕ) (b : Book) → Arrays b → bookVerdict (bookEntries b) ≡ Accepted → t ≡ textOf b → (readOf t .verdict ≡ Accepted) × SameBook (readOf t .book) b
-text-accepted t b arrays accepted e = subst (λ (s : List ℕ). (readOf s .verdict ≡ Accepted) × SameBook (readOf s .book) b) (sym e) (reads-back b arrays accepted)
+pub text-accepted : (t : List ℕ) (b : Book) → Arrays b → bookVerdict (bookEntries b) ≡ Accepted → t ≡ textOf b
+    → (readOf t .verdict ≡ Accepted) × SameBook (readOf t .book) b
+text-accepted t b arrays accepted e =
+    subst (λ (s : List ℕ). (readOf s .verdict ≡ Accepted) × SameBook (readOf s .book) b) (sym e) (reads-back b arrays accepted)

@@ -1,9 +1,9 @@
 -- What a reading's answer tells of its text. Assumes nothing.
-use Prim.Native.Nat.{ℕ, zero, suc, _+_, _≤_, _<_}
+use Prim.Native.Nat.{ℕ, suc, _+_, _≤_, _<_}
 use native.Mathlib.Omega.{arith}
 use mathlib.Core.Bool.{Bool, true, false, cond}
-use mathlib.Core.List.{List, [], _∷_}
-use mathlib.Core.Path.{_≡_, refl, sym, ap, _∙_, subst}
+use mathlib.Core.List.{List}
+use mathlib.Core.Path.{_≡_, refl, ap, _∙_, subst}
 use borrow.Author.Tests.{le-leb, leb-true}
 use lib.Dec.{leb}
 use lib.ListN.{length, take}
@@ -32,7 +32,8 @@ pub record ReadAs (t : List ℕ) (b : BookEntries) : Type 0 where
   pub accepted : bookVerdict (bookEntries (bookRecord b)) ≡ Accepted
   pub read : readOf t ≡ record { verdict = Accepted; book = bookRecord b }
 
-pub answer-accepted : (b : BookEntries) → bookVerdict (bookEntries (bookRecord b)) ≡ Accepted → bookAnswer b ≡ record { verdict = Accepted; book = bookRecord b }
+pub answer-accepted : (b : BookEntries) → bookVerdict (bookEntries (bookRecord b)) ≡ Accepted
+    → bookAnswer b ≡ record { verdict = Accepted; book = bookRecord b }
 unfolding bookAnswer
 answer-accepted b e = ap (λ (v : Verdict). record { verdict = v; book = whenAccepted v (bookRecord b) emptyBook }) e
 
@@ -43,11 +44,13 @@ accepted-as t e = go (leb (length t) 4096) refl e
     whole : Reading WellFormedBook bookText t → BookRead
     whole = answer WellFormedBook bookText bookAnswer (refusedAnswer Shape)
 
-    by : leb (length t) 4096 ≡ true → (x : Reading WellFormedBook bookText t) → readOf t ≡ whole x → whole x .verdict ≡ Accepted → (b : BookEntries) × ReadAs t b
+    by : leb (length t) 4096 ≡ true → (x : Reading WellFormedBook bookText t) → readOf t ≡ whole x → whole x .verdict ≡ Accepted
+        → (b : BookEntries) × ReadAs t b
     by q (of-shape b it) i f = (b, record { short = leb-true (length t) 4096 q; text = it; accepted = f; read = i ∙ answer-accepted b f })
     by q (not-of-shape n none it) i f = refused-not f
 
-    go : (x : Bool) → leb (length t) 4096 ≡ x → cond x (whole (book-reading t)) (refusedAnswer TextLength 4096) .verdict ≡ Accepted → (b : BookEntries) × ReadAs t b
+    go : (x : Bool) → leb (length t) 4096 ≡ x → cond x (whole (book-reading t)) (refusedAnswer TextLength 4096) .verdict ≡ Accepted
+        → (b : BookEntries) × ReadAs t b
     go true q f = by q (book-reading t) (ap (λ (x : Bool). cond x (whole (book-reading t)) (refusedAnswer TextLength 4096)) q) f
     go false q f = refused-not f
 
@@ -73,16 +76,20 @@ refused-place t n e = go (leb (length t) 4096) refl e
 
     by : leb (length t) 4096 ≡ true → (x : Reading WellFormedBook bookText t) → whole x .verdict ≡ Refused Shape n → NotOfShape t n
     by q (of-shape b it) f = absurd (not-shape (bookEntries (bookRecord b)) n f)
-    by q (not-of-shape m none it) f = record { short = leb-true (length t) 4096 q; no-book = none; longest = subst (Longest WellFormedBook bookText t) (same m f) it }
+    by q (not-of-shape m none it) f =
+        record { short = leb-true (length t) 4096 q; no-book = none; longest = subst (Longest WellFormedBook bookText t) (same m f) it }
 
-    go : (x : Bool) → leb (length t) 4096 ≡ x → cond x (whole (book-reading t)) (refusedAnswer TextLength 4096) .verdict ≡ Refused Shape n → NotOfShape t n
+    go : (x : Bool) → leb (length t) 4096 ≡ x → cond x (whole (book-reading t)) (refusedAnswer TextLength 4096) .verdict ≡ Refused Shape n
+        → NotOfShape t n
     go true q f = by q (book-reading t) f
     go false q f = absurd (omega (arith, ap numberOf f))
 
 pub place-refused : (t : List ℕ) (n : ℕ) → NotOfShape t n → readOf t ≡ refusedAnswer Shape n
 unfolding readOf
 place-refused t n s =
-    ap (λ (x : Bool). cond x (answer WellFormedBook bookText bookAnswer (refusedAnswer Shape) (book-reading t)) (refusedAnswer TextLength 4096)) (le-leb (length t) 4096 (s .short))
+    ap
+    (λ (x : Bool). cond x (answer WellFormedBook bookText bookAnswer (refusedAnswer Shape) (book-reading t)) (refusedAnswer TextLength 4096))
+    (le-leb (length t) 4096 (s .short))
     ∙ answer-stopped book bookAnswer (refusedAnswer Shape) t n (s .no-book) (s .longest) (book-reading t)
 
 -- in other words: some text of the shape has these first n bytes, and none has these first n + 1, or the text ends there
@@ -96,12 +103,17 @@ one-byte-more t n s h b = omega (arith, s .longest .longest (suc n) h b)
 pub text-read : (t : List ℕ) (b : BookEntries) → length t ≤ 4096 → TextOf WellFormedBook bookText t b → readOf t ≡ bookAnswer b
 unfolding readOf
 text-read t b h it =
-    ap (λ (x : Bool). cond x (answer WellFormedBook bookText bookAnswer (refusedAnswer Shape) (book-reading t)) (refusedAnswer TextLength 4096)) (le-leb (length t) 4096 h)
+    ap
+    (λ (x : Bool). cond x (answer WellFormedBook bookText bookAnswer (refusedAnswer Shape) (book-reading t)) (refusedAnswer TextLength 4096))
+    (le-leb (length t) 4096 h)
     ∙ answer-whole book bookAnswer (refusedAnswer Shape) t b it (book-reading t)
 
 -- Which of a text's readings is taken makes no difference: there is one answer.
-pub any-reading : (t : List ℕ) → length t ≤ 4096 → (x : Reading WellFormedBook bookText t) → readOf t ≡ answer WellFormedBook bookText bookAnswer (refusedAnswer Shape) x
+pub any-reading : (t : List ℕ) → length t ≤ 4096 → (x : Reading WellFormedBook bookText t)
+    → readOf t ≡ answer WellFormedBook bookText bookAnswer (refusedAnswer Shape) x
 unfolding readOf
 any-reading t h x =
-    ap (λ (b : Bool). cond b (answer WellFormedBook bookText bookAnswer (refusedAnswer Shape) (book-reading t)) (refusedAnswer TextLength 4096)) (le-leb (length t) 4096 h)
+    ap
+    (λ (b : Bool). cond b (answer WellFormedBook bookText bookAnswer (refusedAnswer Shape) (book-reading t)) (refusedAnswer TextLength 4096))
+    (le-leb (length t) 4096 h)
     ∙ one-answer book bookAnswer (refusedAnswer Shape) t (book-reading t) x

@@ -1,19 +1,18 @@
 -- A signed number at a place of a text. Assumes nothing.
 use Prim.Native.Nat.{ℕ, _+_, _<_}
-use native.Mathlib.Omega.{arith}
 use mathlib.Core.Bool.{Bool, true, false, not, _&&_, true≢false}
-use mathlib.Core.List.{List, []}
+use mathlib.Core.List.{List}
 use mathlib.Core.Logic.{inl, inr}
 use mathlib.Core.Path.{_≡_, refl, sym, _∙_, subst}
 use borrow.Author.Tests.{ltb-true, ltb-false}
 use lib.Dec.{ltb}
-use lib.IntN.{ℤ, pos, negℤ}
+use lib.IntN.{pos, negℤ}
 use lib.ListN.{length, drop}
 use Rattle.forms.specs.Digits.{signedDigits}
 use Rattle.forms.proofs.Form.{startsWith}
 use Rattle.forms.proofs.Number.{number}
 use Rattle.forms.proofs.Signed.{signed, from-0, from-1, no-minus, minus-or-none, integer, sides, ThirteenDigits, same-integers}
-use Rattle.forms.proofs.Place.{Gives, Reads, gives-left, gives-right, reads-via}
+use Rattle.forms.proofs.Place.{Reads, gives-left, gives-right, reads-via}
 use Rattle.scanner.proofs.Numbers.{starts-past}
 
 -- the code's test: parsing goes on, and with this byte
@@ -38,11 +37,13 @@ module _ (t : List ℕ) (i : ℕ) (before : Bool) where
   signed-minus n e stop h g =
       let b = begins-going 45 h in
       reads-via minus-or-none integer sides ThirteenDigits signedDigits same-integers t i before (inl n) e stop
-      (subst (λ (k : Bool). Reads minus-or-none t i k (inl n) e stop) (sym (b .0)) (gives-left 45 (number 1 from-1) (number 0 from-0) no-minus t i n e stop (b .1) g))
+      (subst (λ (k : Bool). Reads minus-or-none t i k (inl n) e stop) (sym (b .0))
+      (gives-left 45 (number 1 from-1) (number 0 from-0) no-minus t i n e stop (b .1) g))
 
   pub signed-plain : (n e : ℕ) (stop : Bool) → not before && startsWith 45 (drop i t) ≡ false → Reads (number 0 from-0) t i before n e stop
       → Reads signed t i before (pos n) e stop
-  signed-plain n e stop h g = reads-via minus-or-none integer sides ThirteenDigits signedDigits same-integers t i before (inr n) e stop (go before h g)
+  signed-plain n e stop h g =
+      reads-via minus-or-none integer sides ThirteenDigits signedDigits same-integers t i before (inr n) e stop (go before h g)
     where
       go : (k : Bool) → not k && startsWith 45 (drop i t) ≡ false → Reads (number 0 from-0) t i k n e stop → Reads minus-or-none t i k (inr n) e stop
       go true h g = g

@@ -1,17 +1,16 @@
 -- A number read digit by digit. Assumes nothing.
-use Prim.Native.Nat.{ℕ, zero, suc, _+_, _*_, _-_, _≤_, _<_}
-use native.Mathlib.Numerals.{add-one}
+use Prim.Native.Nat.{ℕ, _+_, _*_, _-_, _≤_, _<_}
 use native.Mathlib.Omega.{arith}
 use mathlib.Core.Bool.{Bool, true, false, true≢false}
 use mathlib.Core.List.{List, [], _∷_}
-use mathlib.Core.Path.{_≡_, refl, sym, ap, _∙_, subst}
+use mathlib.Core.Path.{_≡_, refl, sym, ap, _∙_}
 use borrow.Author.Tests.{ltb-true, ltb-false}
 use lib.Dec.{ltb, eqb}
 use lib.ListN.{length, drop, getD, drop-of-length-le}
 use Rattle.lists.proofs.Slices.{drop-next}
-use Rattle.forms.proofs.Parse.{Parse, parsed, stopped}
+use Rattle.forms.proofs.Parse.{parsed, stopped}
 use Rattle.forms.proofs.Form.{startsWith}
-use Rattle.forms.proofs.Number.{number, number-parse, further, goesOn, isFirst, firstOf, Goes, goes, first-low, first-high}
+use Rattle.forms.proofs.Number.{number, number-parse, further, goesOn, isFirst, firstOf, goes, first-low, first-high}
 use Rattle.forms.proofs.Place.{Found, Stops}
 
 -- the first byte, looked at
@@ -40,7 +39,8 @@ module _ (least : ℕ) (small : least ≤ 1) (t : List ℕ) (at : ℕ) where
   -- no number begins here
   pub number-none : at ≤ length t → firstOf least (drop at t) ≡ false → Stops (number least small) t at at
   unfolding number-parse
-  number-none h e = record { finds = go (drop at t) e ∙ ap (λ (k : ℕ). stopped k) (let z : 0 ≡ at - at = omega arith in z); from = omega arith; to = h }
+  number-none h e =
+      record { finds = go (drop at t) e ∙ ap (λ (k : ℕ). stopped k) (let z : 0 ≡ at - at = omega arith in z); from = omega arith; to = h }
     where
       go : (s : List ℕ) → firstOf least s ≡ false → number-parse least s ≡ stopped 0
       go [] q = refl

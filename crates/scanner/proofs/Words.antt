@@ -1,9 +1,9 @@
 -- A word compared with a text byte by byte. Assumes nothing.
-use Prim.Native.Nat.{ℕ, zero, suc, _+_, _-_, _≤_, _<_}
+use Prim.Native.Nat.{ℕ, suc, _+_, _-_, _≤_, _<_}
 use native.Mathlib.Nat.{add-zero}
 use native.Mathlib.Numerals.{add-one}
 use native.Mathlib.Omega.{arith}
-use mathlib.Core.List.{List, [], _∷_}
+use mathlib.Core.List.{List, _∷_}
 use mathlib.Core.Path.{_≡_, refl, sym, ap, ap₂, _∙_}
 use borrow.Author.Tests.{eq-eqb, ne-eqb}
 use lib.ListN.{length, drop, getD, drop-of-length-le}
@@ -74,7 +74,8 @@ module _ (t w : List ℕ) (at i : ℕ) (l : Along t w at i) where
     unfolding word-parse
     along-next h e =
         let z : suc (at + i) ≡ at + (i + 1) = omega arith in
-        let step : word-parse (drop i w) (drop (at + i) t) ≡ on 1 (word-parse (drop (suc i) w) (drop (suc (at + i)) t)) = rw (here, drop-cons t (at + i) 0 h, eq-eqb (getD t (at + i) 0) (getD w i 0) e) in
+        let step : word-parse (drop i w) (drop (at + i) t) ≡ on 1 (word-parse (drop (suc i) w) (drop (suc (at + i)) t)) =
+        rw (here, drop-cons t (at + i) 0 h, eq-eqb (getD t (at + i) 0) (getD w i 0) e) in
         record {
           in-word = omega arith;
           in-text = omega arith;

@@ -1,8 +1,8 @@
 // The digits of a number, one by one.
 ghost use mathlib.Core.Path.{_≡_};
 ghost use Prim.Native.Nat.{_-_, _≤_, _<_};
-ghost use lib.ListN.{length, drop};
-ghost use Rattle.forms.proofs.Number.{isDigit, isFirst, goesOn, firstOf};
+ghost use lib.ListN.{drop};
+ghost use Rattle.forms.proofs.Number.{goesOn, firstOf};
 
 // Whether a number that is at least `least` can begin at the place.
 pub fn is_first_at(text: &[u8], at: usize, least: u8) -> bool

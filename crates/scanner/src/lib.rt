@@ -143,11 +143,11 @@ pub fn field(text: &[u8], from: Cursor, w: &[u8]) -> ParsedNumber
     ensures { λ r. ⌜ ScansField (now (w .entry)) (now (text .entry)) from (r .value) (r .next) ⌝ }
     ensures { λ r. ⌜ r .next .at ≤ length (now (text .entry)) ⌝ }
 {
-    let n = number(text, from, 0);
-    let between = n.next;
+    let parsed = number(text, from, 0);
+    let between = parsed.next;
     let next = word(text, between, w);
     ParsedNumber {
-        value: n.value,
+        value: parsed.value,
         next,
     }
 }

@@ -40,7 +40,10 @@ module _ (out : List ℕ) (at : ℕ) where
       let t₃ = wrote-then out at (p₁ ++ p₂) o₂ n₂ p₃ o₃ n₃ (omega arith) t₂ w₃ in
       let t₄ = wrote-then out at (p₁ ++ p₂ ++ p₃) o₃ n₃ p₄ o₄ n₄ (omega arith) t₃ w₄ in
       let t₅ = wrote-then out at (p₁ ++ p₂ ++ p₃ ++ p₄) o₄ n₄ (ascii ")") exit end (omega arith) t₄ w₅ in
-      let same = regroup (ascii " (seg ") (digits (s .start .0)) (ascii " ") (digits (s .end .0)) (ascii " ") (digits (s .unit .0)) (ascii " ") (signedDigits (s .fixed .0)) (ascii ")") in
+      let same =
+      regroup
+      (ascii " (seg ") (digits (s .start .0)) (ascii " ") (digits (s .end .0)) (ascii " ") (digits (s .unit .0)) (ascii " ")
+      (signedDigits (s .fixed .0)) (ascii ")") in
       wrote-as out at (p₁ ++ p₂ ++ p₃ ++ p₄ ++ ascii ")") (segmentText s) exit end same t₅
 
   pub wrote-bid : (b : BidEntries) (o₁ o₂ exit : List ℕ) (n₁ n₂ end : ℕ) → at + length (bidText b) ≤ length out

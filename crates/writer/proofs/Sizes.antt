@@ -14,7 +14,8 @@ use Rattle.book.specs.Entries.{BidEntries, BookEntries, bidEntries, bookEntries
 use Rattle.booktext.specs.BookText.{segmentText, bidText, bookText}
 
 pub segment-size : (s : Segment)
-    → length (segmentText s) ≡ 10 + length (digits (s .start .0)) + length (digits (s .end .0)) + length (digits (s .unit .0)) + length (signedDigits (s .fixed .0))
+    → length (segmentText s) ≡ 10 + length (digits (s .start .0)) + length (digits (s .end .0)) + length (digits (s .unit .0)) + length
+    (signedDigits (s .fixed .0))
 unfolding segmentText
 segment-size s = simp length-append (omega arith)
 

@@ -1,15 +1,10 @@
-use mathlib.Core.Path.{_≡_, _∙_, subst}
+use mathlib.Core.Path.{_∙_, subst}
 use Rattle.forms.proofs.Place.{Gives}
 use Rattle.booktext.proofs.BookForm.{book}
 use Rattle.reader.proofs.Answers.{read-long, read-stopped, read-ended, read-whole, answer-refused, answer-accepted}
 use borrow.Author.Needs.{needs}
 use Rattle.reader.proofs.read.Statement.{statement}
 use Rattle.reader.proofs.read.Tie as tie
-use Rattle.reader.proofs.read.Reads as reads
-use Rattle.reader.proofs.read.Lts as lts
-use Rattle.book.proofs.check.Reads as check-reads
-use Rattle.reader.proofs.bids.book.Reads as book-reads
-use Rattle.reader.proofs.refused.Reads as refused-reads
 
 -- src/lib.rt:34:9
 refused-requires : tie.Need-refused-requires
@@ -32,7 +27,9 @@ returns-2 : tie.Need-returns-2
 returns-2 c =
     let t = c .before .before .before .before .before .before .args .text .now in
     let b = c .before .before .before .book in
-    c .refused2 .ensures ∙ read-stopped t (c .before .before .before .before .if1 .left) (b .result .next .at) (subst (Gives book t 0 (b .ensures .0) (b .result .next .at)) (c .before .if2 .taken) (b .ensures .2))
+    c .refused2 .ensures
+    ∙ read-stopped t (c .before .before .before .before .if1 .left) (b .result .next .at)
+    (subst (Gives book t 0 (b .ensures .0) (b .result .next .at)) (c .before .if2 .taken) (b .ensures .2))
 
 -- src/lib.rt:42:9
 refused-requires-3 : tie.Need-refused-requires-3
@@ -43,7 +40,10 @@ returns-3 : tie.Need-returns-3
 returns-3 c =
     let t = c .before .before .before .before .before .before .before .before .args .text .now in
     let b = c .before .before .before .before .before .book in
-    c .refused3 .ensures ∙ read-ended t (c .before .before .before .before .before .before .if1 .left) (b .ensures .0) (b .result .next .at) (subst (Gives book t 0 (b .ensures .0) (b .result .next .at)) (c .before .before .before .if2 .left) (b .ensures .2)) (c .before .if3 .taken)
+    c .refused3 .ensures
+    ∙ read-ended t (c .before .before .before .before .before .before .if1 .left) (b .ensures .0) (b .result .next .at)
+    (subst (Gives book t 0 (b .ensures .0) (b .result .next .at)) (c .before .before .before .if2 .left) (b .ensures .2))
+    (c .before .if3 .taken)
 
 -- src/lib.rt:45:9
 check-requires : tie.Need-check-requires
@@ -62,8 +62,17 @@ returns-4 : tie.Need-returns-4
 returns-4 c =
     let t = c .before .before .before .before .before .before .before .before .before .before .before .before .before .args .text .now in
     let b = c .before .before .before .before .before .before .before .before .before .before .book in
-    let parsed = read-whole t (c .before .before .before .before .before .before .before .before .before .before .before .if1 .left) (b .ensures .0) (b .result .next .at) (subst (Gives book t 0 (b .ensures .0) (b .result .next .at)) (c .before .before .before .before .before .before .before .before .if2 .left) (b .ensures .2)) (c .before .before .before .before .before .before .if3 .left) in
-    c .refused4 .ensures ∙ answer-refused (b .ensures .0) (b .result .book) (c .before .before .before .before .check .result) (c .before .before .verdict .given .0 .0) (c .before .before .verdict .given .0 .1 .0) (b .ensures .1) (c .before .before .before .before .check .ensures) (c .before .before .verdict .given .1) ∙ parsed
+    let parsed =
+    read-whole t (c .before .before .before .before .before .before .before .before .before .before .before .if1 .left) (b .ensures .0)
+    (b .result .next .at)
+    (subst (Gives book t 0 (b .ensures .0) (b .result .next .at))
+    (c .before .before .before .before .before .before .before .before .if2 .left) (b .ensures .2))
+    (c .before .before .before .before .before .before .if3 .left) in
+    c .refused4 .ensures
+    ∙ answer-refused (b .ensures .0) (b .result .book) (c .before .before .before .before .check .result)
+    (c .before .before .verdict .given .0 .0) (c .before .before .verdict .given .0 .1 .0) (b .ensures .1)
+    (c .before .before .before .before .check .ensures) (c .before .before .verdict .given .1)
+    ∙ parsed
 
 enum-told : tie.Need-enum-told
 enum-told c = search needs
@@ -73,8 +82,15 @@ returns-5 : tie.Need-returns-5
 returns-5 c =
     let t = c .before .before .before .before .before .before .before .before .before .before .before .args .text .now in
     let b = c .before .before .before .before .before .before .before .before .book in
-    let parsed = read-whole t (c .before .before .before .before .before .before .before .before .before .if1 .left) (b .ensures .0) (b .result .next .at) (subst (Gives book t 0 (b .ensures .0) (b .result .next .at)) (c .before .before .before .before .before .before .if2 .left) (b .ensures .2)) (c .before .before .before .before .if3 .left) in
-    answer-accepted (b .ensures .0) (b .result .book) (c .before .before .check .result) (b .ensures .1) (c .before .before .check .ensures) (c .enum-told .given .1) ∙ parsed
+    let parsed =
+    read-whole t (c .before .before .before .before .before .before .before .before .before .if1 .left) (b .ensures .0)
+    (b .result .next .at)
+    (subst (Gives book t 0 (b .ensures .0) (b .result .next .at)) (c .before .before .before .before .before .before .if2 .left)
+    (b .ensures .2))
+    (c .before .before .before .before .if3 .left) in
+    answer-accepted (b .ensures .0) (b .result .book) (c .before .before .check .result) (b .ensures .1) (c .before .before .check .ensures)
+    (c .enum-told .given .1)
+    ∙ parsed
 
 pub read-spec : {M : Type 1} → statement M
 read-spec =

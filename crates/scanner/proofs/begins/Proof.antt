@@ -1,12 +1,8 @@
-use mathlib.Core.Path.{_≡_, sym, _∙_}
-use native.Mathlib.Omega.{arith}
 use borrow.Author.Needs.{needs}
 use Rattle.scanner.proofs.Numbers.{starts-at, starts-past}
 use borrow.Author.Needs.{needs}
 use Rattle.scanner.proofs.begins.Statement.{statement}
 use Rattle.scanner.proofs.begins.Tie as tie
-use Rattle.scanner.proofs.begins.Reads as reads
-use Rattle.scanner.proofs.begins.Lts as lts
 
 -- src/lib.rt:131:9
 returns : tie.Need-returns
@@ -22,7 +18,9 @@ shared-slice-read-result c = search needs
 
 -- src/lib.rt:127:1
 returns-3 : tie.Need-returns-3
-returns-3 c = let a = c .before .before .before .args in rw (c .before .before .if1 .left, starts-at (a .text .now) (a .from .at) (a .b) (c .before .if2 .left))
+returns-3 c =
+    let a = c .before .before .before .args in
+    rw (c .before .before .if1 .left, starts-at (a .text .now) (a .from .at) (a .b) (c .before .if2 .left))
 
 pub begins-spec : {M : Type 1} → statement M
 begins-spec = tie.close (tie.spec returns returns-2 shared-slice-read-result returns-3)

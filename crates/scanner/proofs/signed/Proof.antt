@@ -1,5 +1,5 @@
 use native.Mathlib.Omega.{arith}
-use mathlib.Core.Path.{_≡_, sym, _∙_, subst}
+use mathlib.Core.Path.{sym, _∙_, subst}
 use lib.IntN.{ℤ}
 use Rattle.forms.proofs.Signed.{signed, from-0, from-1}
 use Rattle.forms.proofs.Place.{Reads}
@@ -8,12 +8,6 @@ use Rattle.scanner.proofs.Negatives.{minus-kept, plus-kept}
 use borrow.Author.Needs.{needs}
 use Rattle.scanner.proofs.signed.Statement.{statement}
 use Rattle.scanner.proofs.signed.Tie as tie
-use Rattle.scanner.proofs.signed.Reads as reads
-use Rattle.scanner.proofs.signed.Lts as lts
-use Rattle.scanner.proofs.begins.Reads as begins-reads
-use Rattle.scanner.proofs.number.Reads as number-reads
-use Rattle.scanner.proofs.signs.minus.Reads as minus-reads
-use Rattle.scanner.proofs.signs.plus.Reads as plus-reads
 
 -- src/lib.rt:95:8
 begins-requires : tie.Need-begins-requires
@@ -25,7 +19,11 @@ add-t9 c = search needs
 
 -- src/lib.rt:97:13
 number-requires : tie.Need-number-requires
-number-requires c κs = let a = c .before .before .before .args in (omega (arith, begins-within (a .text .now) (a .from .at) (a .from .stopped) 45 (sym (c .before .begins .ensures) ∙ c .if1 .taken)), omega arith)
+number-requires c κs =
+    let a = c .before .before .before .args in (
+      omega (arith, begins-within (a .text .now) (a .from .at) (a .from .stopped) 45 (sym (c .before .begins .ensures) ∙ c .if1 .taken)),
+      omega arith,
+    )
 
 -- src/lib.rt:100:20
 minus-requires : tie.Need-minus-requires
@@ -36,8 +34,11 @@ returns : tie.Need-returns
 returns c =
     let a = c .before .before .before .before .before .before .args in
     let n = c .before .before .number .result in (
-      subst (λ (z : ℤ). Reads signed (a .text .now) (a .from .at) (a .from .stopped) z (n .next .at) (n .next .stopped)) (sym (minus-kept (n .value) (c .before .before .number .ensures .0) (c .minus .result) (c .minus .ensures)))
-          (signed-minus (a .text .now) (a .from .at) (a .from .stopped) (n .value) (n .next .at) (n .next .stopped) (sym (c .before .before .before .before .begins .ensures) ∙ c .before .before .before .if1 .taken) (c .before .before .number .ensures .1 .0 from-1)),
+      subst (λ (z : ℤ). Reads signed (a .text .now) (a .from .at) (a .from .stopped) z (n .next .at) (n .next .stopped))
+          (sym (minus-kept (n .value) (c .before .before .number .ensures .0) (c .minus .result) (c .minus .ensures)))
+          (signed-minus (a .text .now) (a .from .at) (a .from .stopped) (n .value) (n .next .at) (n .next .stopped)
+          (sym (c .before .before .before .before .begins .ensures) ∙ c .before .before .before .if1 .taken)
+          (c .before .before .number .ensures .1 .0 from-1)),
       c .before .before .number .ensures .1 .1,
     )
 
@@ -54,8 +55,11 @@ returns-2 : tie.Need-returns-2
 returns-2 c =
     let a = c .before .before .before .before .before .before .args in
     let n = c .before .before .number2 .result in (
-      subst (λ (z : ℤ). Reads signed (a .text .now) (a .from .at) (a .from .stopped) z (n .next .at) (n .next .stopped)) (sym (plus-kept (n .value) (c .before .before .number2 .ensures .0) (c .plus .result) (c .plus .ensures)))
-          (signed-plain (a .text .now) (a .from .at) (a .from .stopped) (n .value) (n .next .at) (n .next .stopped) (sym (c .before .before .before .before .begins .ensures) ∙ c .before .before .before .if1 .left) (c .before .before .number2 .ensures .1 .0 from-0)),
+      subst (λ (z : ℤ). Reads signed (a .text .now) (a .from .at) (a .from .stopped) z (n .next .at) (n .next .stopped))
+          (sym (plus-kept (n .value) (c .before .before .number2 .ensures .0) (c .plus .result) (c .plus .ensures)))
+          (signed-plain (a .text .now) (a .from .at) (a .from .stopped) (n .value) (n .next .at) (n .next .stopped)
+          (sym (c .before .before .before .before .begins .ensures) ∙ c .before .before .before .if1 .left)
+          (c .before .before .number2 .ensures .1 .0 from-0)),
       c .before .before .number2 .ensures .1 .1,
     )
 

@@ -1,16 +1,12 @@
 use Prim.Native.Nat.{_+_, _-_}
 use native.Mathlib.Omega.{arith}
-use mathlib.Core.Path.{_≡_}
 use mathlib.Core.Bool.{true, false}
-use borrow.Author.Needs.{needs}
 use lib.ListN.{length}
 use Rattle.forms.proofs.Word.{word}
 use Rattle.forms.proofs.Place.{reads-still, reads-going}
 use Rattle.scanner.proofs.Words.{Along, along-start, along-next, along-end, along-differ, along-done}
 use Rattle.scanner.proofs.word.Statement.{statement}
 use Rattle.scanner.proofs.word.Tie as tie
-use Rattle.scanner.proofs.word.Reads as reads
-use Rattle.scanner.proofs.word.Lts as lts
 
 abbrev Inv-loop : tie.InvT-loop
 Inv-loop text w at i₀ i = Along text w at i
@@ -20,7 +16,9 @@ abbrev μ-loop : tie.MeasureT-loop
 
 -- src/lib.rt:38:9
 returns : tie.Need-returns Inv-loop μ-loop
-returns c = let a = c .before .args in (reads-still (word (a .w .now)) (a .text .now) (a .from .at) (a .from .stopped) tt (c .if1 .taken), c .before .pre)
+returns c =
+    let a = c .before .args in
+    (reads-still (word (a .w .now)) (a .text .now) (a .from .at) (a .from .stopped) tt (c .if1 .taken), c .before .pre)
 
 -- src/lib.rt:42:5
 loop-holds : tie.Need-loop-holds Inv-loop μ-loop
@@ -38,8 +36,12 @@ add-t10 c = omega (arith, c .before .before .loop .inv .in-text)
 returns-2 : tie.Need-returns-2 Inv-loop μ-loop
 returns-2 c =
     let a = c .before .before .before .before .args in
-    let l = c .before .before .loop in
-    (reads-going (word (a .w .now)) (a .text .now) (a .from .at) (a .from .stopped) tt (a .from .at + l .i) true (c .before .before .before .if1 .left) (along-end (a .text .now) (a .w .now) (a .from .at) (l .i) (l .inv) (omega arith) (c .if2 .taken)), l .inv .in-text)
+    let l = c .before .before .loop in (
+      reads-going (word (a .w .now)) (a .text .now) (a .from .at) (a .from .stopped) tt (a .from .at + l .i) true
+          (c .before .before .before .if1 .left)
+          (along-end (a .text .now) (a .w .now) (a .from .at) (l .i) (l .inv) (omega arith) (c .if2 .taken)),
+      l .inv .in-text,
+    )
 
 -- src/lib.rt:46:17
 add-if3 : tie.Need-add-if3 Inv-loop μ-loop
@@ -61,8 +63,12 @@ add-t15 c = omega (arith, c .before .before .before .before .before .loop .inv .
 returns-3 : tie.Need-returns-3 Inv-loop μ-loop
 returns-3 c =
     let a = c .before .before .before .before .before .before .before .args in
-    let l = c .before .before .before .before .before .loop in
-    (reads-going (word (a .w .now)) (a .text .now) (a .from .at) (a .from .stopped) tt (a .from .at + l .i) true (c .before .before .before .before .before .before .if1 .left) (along-differ (a .text .now) (a .w .now) (a .from .at) (l .i) (l .inv) (omega arith) (omega arith) (c .if3 .taken)), l .inv .in-text)
+    let l = c .before .before .before .before .before .loop in (
+      reads-going (word (a .w .now)) (a .text .now) (a .from .at) (a .from .stopped) tt (a .from .at + l .i) true
+          (c .before .before .before .before .before .before .if1 .left)
+          (along-differ (a .text .now) (a .w .now) (a .from .at) (l .i) (l .inv) (omega arith) (omega arith) (c .if3 .taken)),
+      l .inv .in-text,
+    )
 
 -- src/lib.rt:49:9
 add-i : tie.Need-add-i Inv-loop μ-loop
@@ -87,8 +93,11 @@ add-t16 c = omega (arith, c .before .loop .inv .in-text)
 returns-4 : tie.Need-returns-4 Inv-loop μ-loop
 returns-4 c =
     let a = c .before .before .before .args in
-    let l = c .before .loop in
-    (reads-going (word (a .w .now)) (a .text .now) (a .from .at) (a .from .stopped) tt (a .from .at + l .i) false (c .before .before .if1 .left) (along-done (a .text .now) (a .w .now) (a .from .at) (l .i) (l .inv) (omega arith)), l .inv .in-text)
+    let l = c .before .loop in (
+      reads-going (word (a .w .now)) (a .text .now) (a .from .at) (a .from .stopped) tt (a .from .at + l .i) false
+          (c .before .before .if1 .left) (along-done (a .text .now) (a .w .now) (a .from .at) (l .i) (l .inv) (omega arith)),
+      l .inv .in-text,
+    )
 
 pub word-spec : {M : Type 1} → statement M
 word-spec =

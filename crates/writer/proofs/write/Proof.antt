@@ -30,12 +30,15 @@ returns-2 c =
     let told = c .before .before in
     let check = told .before .before .check in
     let a = told .before .before .before .before .args in
-    too-short (a .book) (a .out .now) (check .result) (check .ensures) (told .enum-told2 .given .1) (size .result) (size .ensures) (omega (arith, c .if1 .taken))
+    too-short (a .book) (a .out .now) (check .result) (check .ensures) (told .enum-told2 .given .1) (size .result) (size .ensures)
+    (omega (arith, c .if1 .taken))
 
 write-book-requires : tie.Need-write-book-requires
 write-book-requires c κs =
-    let told = c .before .before .before in
-    (sym (told .before .before .check .ensures) ∙ told .enum-told2 .given .1, omega (arith, c .before .before .book-length .ensures, c .before .if1 .left))
+    let told = c .before .before .before in (
+      sym (told .before .before .check .ensures) ∙ told .enum-told2 .given .1,
+      omega (arith, c .before .before .book-length .ensures, c .before .if1 .left),
+    )
 
 same-length : tie.Need-same-length
 same-length c = search needs
@@ -48,7 +51,8 @@ returns-3 c =
     let told = fits .before .before in
     let check = told .before .before .check in
     let a = told .before .before .before .before .args in
-    in-full (a .book) (a .out .now) (check .result) (check .ensures) (told .enum-told2 .given .1) (size .result) (size .ensures) (fits .if1 .left) (write .last .0) (write .ensures .1)
+    in-full (a .book) (a .out .now) (check .result) (check .ensures) (told .enum-told2 .given .1) (size .result) (size .ensures)
+    (fits .if1 .left) (write .last .0) (write .ensures .1)
 
 pub write-spec : {M : Type 1} → statement M
 write-spec =

@@ -5,11 +5,6 @@ use Rattle.reader.proofs.Parts.{bid-scanned}
 use borrow.Author.Needs.{needs}
 use Rattle.reader.proofs.bids.bid.Statement.{statement}
 use Rattle.reader.proofs.bids.bid.Tie as tie
-use Rattle.reader.proofs.bids.bid.Reads as reads
-use Rattle.reader.proofs.bids.bid.Lts as lts
-use Rattle.reader.proofs.segments.segments.Reads as segments-reads
-use Rattle.scanner.proofs.number.Reads as number-reads
-use Rattle.scanner.proofs.word.Reads as word-reads
 
 -- src/bids.rt:22:42
 slice-aggregate-word : tie.Need-slice-aggregate-word
@@ -46,7 +41,8 @@ returns c =
       (
         bidOf (n .result .value) xs,
         parsed .ensures .0 .1,
-        bid-scanned (a .text .now) (a .from) (w .result) (n .result .value) (n .result .next) xs (parsed .result .next) (c .word2 .result) (w .ensures .0) (n .ensures .1 .0 from-0) (parsed .ensures .0 .2) (c .word2 .ensures .0),
+        bid-scanned (a .text .now) (a .from) (w .result) (n .result .value) (n .result .next) xs (parsed .result .next) (c .word2 .result)
+            (w .ensures .0) (n .ensures .1 .0 from-0) (parsed .ensures .0 .2) (c .word2 .ensures .0),
       ),
       c .word2 .ensures .1,
     )

@@ -1,20 +1,15 @@
 use native.Mathlib.Omega.{arith}
-use mathlib.Core.Path.{_≡_, sym, ap, _∙_}
+use mathlib.Core.Path.{sym, ap, _∙_}
 use Rattle.booktext.proofs.BookForm.{bid, bid-open}
 use Rattle.reader.specs.Adding.{withBid}
 use Rattle.reader.proofs.Collecting.{Collected, collected-first, collected-next, collected-done, left, left-falls}
 use Rattle.reader.proofs.Kept.{bidsKept, bidCount, bid-kept, first-bid, one-bid}
 use Rattle.reader.proofs.bids.bids.Statement.{statement}
 use Rattle.reader.proofs.bids.bids.Tie as tie
-use Rattle.reader.proofs.bids.bids.Reads as reads
-use Rattle.reader.proofs.bids.bids.Lts as lts
-use Rattle.reader.proofs.bids.bid.Reads as bid-reads
-use Rattle.reader.proofs.records.empty_book.Reads as empty-book-reads
-use Rattle.reader.proofs.records.with_bid.Reads as with-bid-reads
-use Rattle.scanner.proofs.begins.Reads as begins-reads
 
 abbrev Inv-loop : tie.InvT-loop
-Inv-loop text demand book₀ next₀ book next = Collected 40 bid bid-open tt (bidsKept demand) bidCount text book₀ (next₀ .at) (next₀ .stopped) book (next .at) (next .stopped)
+Inv-loop text demand book₀ next₀ book next =
+    Collected 40 bid bid-open tt (bidsKept demand) bidCount text book₀ (next₀ .at) (next₀ .stopped) book (next .at) (next .stopped)
 
 abbrev μ-loop : tie.MeasureT-loop
 μ-loop text demand book₀ next₀ book next = left 40 bid bid-open tt (bidsKept demand) bidCount text (next .at) (next .stopped)
@@ -38,8 +33,10 @@ loop-holds c =
     let f = c .before .before .before .before .bid in
     let r = c .before .with-bid in
     let b = f .ensures .0 .0 in
-    collected-first 40 bid bid-open tt (bidsKept (a .demand)) bidCount (a .text .now) (r .result) (a .from .at) (a .from .stopped) b (f .result .next .at) (f .result .next .stopped) (c .before .before .before .before .before .before .pre) (f .ensures .0 .2)
-    (one-bid (a .demand) (c .before .before .before .empty-book .result) (f .result .bid) b (r .result) (c .before .before .before .empty-book .ensures) (f .ensures .0 .1) (r .ensures))
+    collected-first 40 bid bid-open tt (bidsKept (a .demand)) bidCount (a .text .now) (r .result) (a .from .at) (a .from .stopped) b
+    (f .result .next .at) (f .result .next .stopped) (c .before .before .before .before .before .before .pre) (f .ensures .0 .2)
+    (one-bid (a .demand) (c .before .before .before .empty-book .result) (f .result .bid) b (r .result)
+    (c .before .before .before .empty-book .ensures) (f .ensures .0 .1) (r .ensures))
 
 -- src/bids.rt:44:11
 begins-requires : tie.Need-begins-requires Inv-loop μ-loop
@@ -59,7 +56,9 @@ loop-less c =
     let a = c .before .before .before .before .before .before .before .before .before .before .before .before .before .args in
     let l = c .before .before .before .before .before .before .loop in
     let parsed = c .before .before .before .bid2 in
-    left-falls 40 bid bid-open tt (bidsKept (a .demand)) bidCount (a .text .now) (l .next .at) (l .next .stopped) (l .inv .run .within) (sym (c .before .before .before .before .before .begins .ensures) ∙ c .before .before .before .before .if1 .taken) (parsed .ensures .0 .0) (parsed .result .next .at) (parsed .result .next .stopped) (parsed .ensures .0 .2)
+    left-falls 40 bid bid-open tt (bidsKept (a .demand)) bidCount (a .text .now) (l .next .at) (l .next .stopped) (l .inv .run .within)
+    (sym (c .before .before .before .before .before .begins .ensures) ∙ c .before .before .before .before .if1 .taken)
+    (parsed .ensures .0 .0) (parsed .result .next .at) (parsed .result .next .stopped) (parsed .ensures .0 .2)
 
 -- src/bids.rt:44:5
 loop-again : tie.Need-loop-again Inv-loop μ-loop
@@ -71,7 +70,10 @@ loop-again c =
     let parsed = c .before .before .before .bid2 in
     let b = parsed .ensures .0 .0 in
     let r = c .before .with-bid2 in
-    collected-next 40 bid bid-open tt (bidsKept (a .demand)) bidCount (a .text .now) (r₀ .result) (f .result .next .at) (f .result .next .stopped) (l .book) (l .next .at) (l .next .stopped) (l .inv) (sym (c .before .before .before .before .before .begins .ensures) ∙ c .before .before .before .before .if1 .taken) b (parsed .result .next .at) (parsed .result .next .stopped) (parsed .ensures .0 .2) (r .result)
+    collected-next 40 bid bid-open tt (bidsKept (a .demand)) bidCount (a .text .now) (r₀ .result) (f .result .next .at)
+    (f .result .next .stopped) (l .book) (l .next .at) (l .next .stopped) (l .inv)
+    (sym (c .before .before .before .before .before .begins .ensures) ∙ c .before .before .before .before .if1 .taken) b
+    (parsed .result .next .at) (parsed .result .next .stopped) (parsed .ensures .0 .2) (r .result)
     (λ xs e. r .ensures ∙ ap (withBid (l .book)) (parsed .ensures .0 .1) ∙ bid-kept (a .demand) (l .book) b xs e) (ap bidCount (r .ensures))
 
 -- src/bids.rt:33:1
@@ -82,8 +84,11 @@ returns c =
     let r₀ = c .before .before .before .before .with-bid in
     let f = c .before .before .before .before .before .before .before .bid in
     let b = f .ensures .0 .0 in
-    collected-done 40 bid bid-open tt (bidsKept (a .demand)) bidCount (a .text .now) (r₀ .result) (f .result .next .at) (f .result .next .stopped) (l .book) (l .next .at) (l .next .stopped) (l .inv) (sym (c .before .begins .ensures) ∙ c .if1 .left) (a .from .at) (a .from .stopped) b (f .ensures .0 .2)
-    (first-bid (a .demand) (c .before .before .before .before .before .before .empty-book .result) (f .result .bid) b (r₀ .result) (c .before .before .before .before .before .before .empty-book .ensures) (f .ensures .0 .1) (r₀ .ensures))
+    collected-done 40 bid bid-open tt (bidsKept (a .demand)) bidCount (a .text .now) (r₀ .result) (f .result .next .at)
+    (f .result .next .stopped) (l .book) (l .next .at) (l .next .stopped) (l .inv) (sym (c .before .begins .ensures) ∙ c .if1 .left)
+    (a .from .at) (a .from .stopped) b (f .ensures .0 .2)
+    (first-bid (a .demand) (c .before .before .before .before .before .before .empty-book .result) (f .result .bid) b (r₀ .result)
+    (c .before .before .before .before .before .before .empty-book .ensures) (f .ensures .0 .1) (r₀ .ensures))
 
 pub bids-spec : {M : Type 1} → statement M
 bids-spec =

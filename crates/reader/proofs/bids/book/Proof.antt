@@ -4,11 +4,6 @@ use Rattle.reader.proofs.Parts.{book-scanned}
 use borrow.Author.Needs.{needs}
 use Rattle.reader.proofs.bids.book.Statement.{statement}
 use Rattle.reader.proofs.bids.book.Tie as tie
-use Rattle.reader.proofs.bids.book.Reads as reads
-use Rattle.reader.proofs.bids.book.Lts as lts
-use Rattle.reader.proofs.bids.bids.Reads as bids-reads
-use Rattle.scanner.proofs.field.Reads as field-reads
-use Rattle.scanner.proofs.word.Reads as word-reads
 
 -- src/bids.rt:57:70
 slice-aggregate-word : tie.Need-slice-aggregate-word
@@ -39,7 +34,8 @@ returns c =
     let xs = c .bids .ensures .0 in (
       bookOf (d .result .value) xs,
       c .bids .ensures .1,
-      book-scanned t (record { at = 0; stopped = false }) (w .result) (d .result .value) (d .result .next) xs (c .bids .result .next) (w .ensures .0) (d .ensures .0) (c .bids .ensures .2),
+      book-scanned t (record { at = 0; stopped = false }) (w .result) (d .result .value) (d .result .next) xs (c .bids .result .next)
+          (w .ensures .0) (d .ensures .0) (c .bids .ensures .2),
     )
 
 pub book-spec : {M : Type 1} → statement M

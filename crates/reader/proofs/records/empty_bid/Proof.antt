@@ -1,10 +1,6 @@
-use mathlib.Core.Path.{_≡_}
 use borrow.Author.Needs.{needs}
 use Rattle.reader.proofs.records.empty_bid.Statement.{statement}
 use Rattle.reader.proofs.records.empty_bid.Tie as tie
-use Rattle.reader.proofs.records.empty_bid.Reads as reads
-use Rattle.reader.proofs.records.empty_bid.Lts as lts
-use Rattle.reader.proofs.records.empty_segment.Reads as empty-segment-reads
 
 -- src/records.rt:27:9
 empty-segment-requires : tie.Need-empty-segment-requires

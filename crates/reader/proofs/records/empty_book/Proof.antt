@@ -1,10 +1,6 @@
-use mathlib.Core.Path.{_≡_}
 use borrow.Author.Needs.{needs}
 use Rattle.reader.proofs.records.empty_book.Statement.{statement}
 use Rattle.reader.proofs.records.empty_book.Tie as tie
-use Rattle.reader.proofs.records.empty_book.Reads as reads
-use Rattle.reader.proofs.records.empty_book.Lts as lts
-use Rattle.reader.proofs.records.empty_bid.Reads as empty-bid-reads
 
 -- src/records.rt:38:9
 empty-bid-requires : tie.Need-empty-bid-requires

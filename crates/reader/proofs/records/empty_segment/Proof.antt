@@ -1,8 +1,6 @@
 use mathlib.Core.Path.{refl}
 use Rattle.reader.proofs.records.empty_segment.Statement.{statement}
 use Rattle.reader.proofs.records.empty_segment.Tie as tie
-use Rattle.reader.proofs.records.empty_segment.Reads as reads
-use Rattle.reader.proofs.records.empty_segment.Lts as lts
 
 -- src/records.rt:15:1
 returns : tie.Need-returns

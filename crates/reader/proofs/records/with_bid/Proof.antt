@@ -1,10 +1,7 @@
 use borrow.Author.Tests.{lt-ltb, le-ltb}
-use mathlib.Core.Path.{_≡_}
 use borrow.Author.Needs.{needs}
 use Rattle.reader.proofs.records.with_bid.Statement.{statement}
 use Rattle.reader.proofs.records.with_bid.Tie as tie
-use Rattle.reader.proofs.records.with_bid.Reads as reads
-use Rattle.reader.proofs.records.with_bid.Lts as lts
 
 -- src/records.rt:66:18
 add-next : tie.Need-add-next

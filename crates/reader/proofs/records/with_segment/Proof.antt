@@ -1,10 +1,7 @@
 use borrow.Author.Tests.{lt-ltb, le-ltb}
-use mathlib.Core.Path.{_≡_}
 use borrow.Author.Needs.{needs}
 use Rattle.reader.proofs.records.with_segment.Statement.{statement}
 use Rattle.reader.proofs.records.with_segment.Tie as tie
-use Rattle.reader.proofs.records.with_segment.Reads as reads
-use Rattle.reader.proofs.records.with_segment.Lts as lts
 
 -- src/records.rt:52:18
 add-next : tie.Need-add-next

@@ -1,4 +1,4 @@
-use mathlib.Core.Path.{_≡_, sym, subst}
+use mathlib.Core.Path.{sym, subst}
 use lib.IntN.{ℤ}
 use mir.Syntax.{w64}
 use mir.Val.{SFits}
@@ -9,11 +9,6 @@ use Rattle.reader.proofs.Parts.{segment-scanned}
 use borrow.Author.Needs.{needs}
 use Rattle.reader.proofs.segments.segment.Statement.{statement}
 use Rattle.reader.proofs.segments.segment.Tie as tie
-use Rattle.reader.proofs.segments.segment.Reads as reads
-use Rattle.reader.proofs.segments.segment.Lts as lts
-use Rattle.scanner.proofs.field.Reads as field-reads
-use Rattle.scanner.proofs.signed.Reads as signed-reads
-use Rattle.scanner.proofs.word.Reads as word-reads
 
 -- src/segments.rt:30:42
 slice-aggregate-word : tie.Need-slice-aggregate-word
@@ -62,7 +57,9 @@ word-requires-2 c κs = search needs
 -- src/segments.rt:26:1
 returns : tie.Need-returns
 returns c =
-    let a = c .before .before .before .before .before .before .before .before .before .before .before .before .before .before .before .before .before .args in
+    let a =
+    c .before .before .before .before .before .before .before .before .before .before .before .before .before .before .before .before
+    .before .args in
     let w = c .before .before .before .before .before .before .before .before .before .before .before .before .before .before .word in
     let start = c .before .before .before .before .before .before .before .before .before .before .before .before .field in
     let end = c .before .before .before .before .before .before .before .before .before .field2 in
@@ -71,7 +68,12 @@ returns c =
     let close = c .before .word2 in
     let fits : SFits w64 (fixed .result .value) = search needs in
     let kept = toZ-ofZ w64 (fixed .result .value) fits in (
-      subst (λ (z : ℤ). Scans segment (a .text .now) (a .from) (record { start = record { 0 = start .result .value }; end = record { 0 = end .result .value }; unit = record { 0 = unit .result .value }; fixed = record { 0 = z } }) (close .result)) (sym kept)
+      subst
+          (λ (z : ℤ). Scans segment (a .text .now) (a .from)
+          (record
+          { start = record { 0 = start .result .value }; end = record { 0 = end .result .value }; unit = record { 0 = unit .result .value }; fixed = record { 0 = z } })
+          (close .result))
+          (sym kept)
           (segment-scanned (a .text .now) (a .from) (w .result) (start .result .value) (start .result .next) (end .result .value) (end .result .next) (unit .result .value) (unit .result .next) (fixed .result .value) (fixed .result .next) (close .result)
           (w .ensures .0) (start .ensures .0) (end .ensures .0) (unit .ensures .0) (fixed .ensures .0) (close .ensures .0)),
       close .ensures .1,

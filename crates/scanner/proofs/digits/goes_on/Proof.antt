@@ -1,12 +1,7 @@
 use native.Mathlib.Omega.{arith}
-use native.Mathlib.Nat.{pos-of-ne-zero}
-use mathlib.Core.Path.{_≡_, sym}
-use borrow.Author.Needs.{needs}
 use borrow.Author.Tests.{lt-ltb, le-ltb, le-leb, lt-leb}
 use Rattle.scanner.proofs.digits.goes_on.Statement.{statement}
 use Rattle.scanner.proofs.digits.goes_on.Tie as tie
-use Rattle.scanner.proofs.digits.goes_on.Reads as reads
-use Rattle.scanner.proofs.digits.goes_on.Lts as lts
 
 -- src/digits.rt:27:9
 returns : tie.Need-returns
@@ -18,11 +13,21 @@ returns-2 c = simp (le-ltb (c .before .before .args .v) 1000000000000 (c .if2 .t
 
 -- src/digits.rt:33:9
 returns-3 : tie.Need-returns-3
-returns-3 c = simp (lt-ltb 0 (c .before .before .before .args .v) (omega arith), lt-ltb (c .before .before .before .args .v) 1000000000000 (omega arith), lt-leb 48 (c .before .before .before .args .b) (c .if3 .taken))
+returns-3 c =
+    simp (
+      lt-ltb 0 (c .before .before .before .args .v) (omega arith),
+      lt-ltb (c .before .before .before .args .v) 1000000000000 (omega arith),
+      lt-leb 48 (c .before .before .before .args .b) (c .if3 .taken),
+    )
 
 -- src/digits.rt:23:1
 returns-4 : tie.Need-returns-4
-returns-4 c = simp (lt-ltb 0 (c .before .before .before .args .v) (omega arith), lt-ltb (c .before .before .before .args .v) 1000000000000 (omega arith), le-leb 48 (c .before .before .before .args .b) (c .if3 .left))
+returns-4 c =
+    simp (
+      lt-ltb 0 (c .before .before .before .args .v) (omega arith),
+      lt-ltb (c .before .before .before .args .v) 1000000000000 (omega arith),
+      le-leb 48 (c .before .before .before .args .b) (c .if3 .left),
+    )
 
 pub goes-on-spec : {M : Type 1} → statement M
 goes-on-spec = tie.close (tie.spec returns returns-2 returns-3 returns-4)

@@ -1,12 +1,9 @@
-use native.Mathlib.Omega.{arith}
 use borrow.Author.Needs.{needs}
 use borrow.Author.Tests.{le-leb, lt-leb}
 use Rattle.scanner.proofs.Numbers.{first-at, first-past}
 use borrow.Author.Needs.{needs}
 use Rattle.scanner.proofs.digits.is_first_at.Statement.{statement}
 use Rattle.scanner.proofs.digits.is_first_at.Tie as tie
-use Rattle.scanner.proofs.digits.is_first_at.Reads as reads
-use Rattle.scanner.proofs.digits.is_first_at.Lts as lts
 
 -- src/digits.rt:13:9
 returns : tie.Need-returns
@@ -22,11 +19,15 @@ add-if2 c = search needs
 
 -- src/digits.rt:17:9
 returns-2 : tie.Need-returns-2
-returns-2 c = let a = c .before .before .before .args in rw (first-at (a .text .now) (a .at) (a .least) (c .before .before .if1 .left), lt-leb _ _ (c .if2 .taken))
+returns-2 c =
+    let a = c .before .before .before .args in
+    rw (first-at (a .text .now) (a .at) (a .least) (c .before .before .if1 .left), lt-leb _ _ (c .if2 .taken))
 
 -- src/digits.rt:8:1
 returns-3 : tie.Need-returns-3
-returns-3 c = let a = c .before .before .before .args in rw (first-at (a .text .now) (a .at) (a .least) (c .before .before .if1 .left), le-leb _ _ (c .if2 .left))
+returns-3 c =
+    let a = c .before .before .before .args in
+    rw (first-at (a .text .now) (a .at) (a .least) (c .before .before .if1 .left), le-leb _ _ (c .if2 .left))
 
 pub is-first-at-spec : {M : Type 1} → statement M
 is-first-at-spec = tie.close (tie.spec returns shared-slice-read-b add-if2 returns-2 returns-3)

@@ -2,8 +2,6 @@ use Rattle.scanner.proofs.Negatives.{minus-fits, minus-is}
 use borrow.Author.Needs.{needs}
 use Rattle.scanner.proofs.signs.minus.Statement.{statement}
 use Rattle.scanner.proofs.signs.minus.Tie as tie
-use Rattle.scanner.proofs.signs.minus.Reads as reads
-use Rattle.scanner.proofs.signs.minus.Lts as lts
 
 -- src/signs.rt:17:7
 cast-result : tie.Need-cast-result

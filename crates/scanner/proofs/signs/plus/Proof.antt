@@ -2,8 +2,6 @@ use Rattle.scanner.proofs.Negatives.{plus-is}
 use borrow.Author.Needs.{needs}
 use Rattle.scanner.proofs.signs.plus.Statement.{statement}
 use Rattle.scanner.proofs.signs.plus.Tie as tie
-use Rattle.scanner.proofs.signs.plus.Reads as reads
-use Rattle.scanner.proofs.signs.plus.Lts as lts
 
 -- src/signs.rt:10:5
 cast-result : tie.Need-cast-result

@@ -40,7 +40,8 @@ returns c =
     let a = w₁ .write-number in
     let b = w₂ .write-segments in
     let d = w₃ .write-word in
-    wrote-bid (s .args .out .now) (s .args .at) (bidEntries (s .args .bid)) (a .last .0) (b .last .0) (d .last .0) (a .result) (b .result) (d .result) (s .pre .1) (a .ensures) (b .ensures) (d .ensures)
+    wrote-bid (s .args .out .now) (s .args .at) (bidEntries (s .args .bid)) (a .last .0) (b .last .0) (d .last .0) (a .result) (b .result)
+    (d .result) (s .pre .1) (a .ensures) (b .ensures) (d .ensures)
 
 pub write-bid-spec : {M : Type 1} → statement M
 write-bid-spec =

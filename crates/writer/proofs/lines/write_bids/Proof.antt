@@ -33,7 +33,8 @@ held c = omega (arith, few c, eight c)
 
 -- the room, said of the lines of the record's bids
 room : (c : tie.At-loop Inv-loop μ-loop)
-    → c .before .before .args .at + length (joined bidLine (take (c .before .before .args .t3 .count) (c .before .before .args .t3 .bids))) ≤ length (c .before .before .args .out .now)
+    → c .before .before .args .at + length (joined bidLine (take (c .before .before .args .t3 .count) (c .before .before .args .t3 .bids)))
+    ≤ length (c .before .before .args .out .now)
 room c = let s = c .before .before in omega (arith, s .pre .1, ap length (bid-lines (s .args .t3)))
 
 this-bid : (c : tie.In-loop Inv-loop μ-loop)
@@ -55,8 +56,10 @@ write-bid-requires : tie.Need-write-bid-requires Inv-loop μ-loop
 write-bid-requires c κs =
     let l = c .before .before in
     let b = l .before .before .before .args .t3 in
-    let at = l .before .loop in
-    (this-bid l .count-high, omega (arith, room (l .before), joined-room bidLine (b .bids) (at .i) (b .count) noBid (l .loop-test .taken) (held (l .before))))
+    let at = l .before .loop in (
+      this-bid l .count-high,
+      omega (arith, room (l .before), joined-room bidLine (b .bids) (at .i) (b .count) noBid (l .loop-test .taken) (held (l .before))),
+    )
 
 add-i : tie.Need-add-i Inv-loop μ-loop
 add-i c = omega (arith, few (c .before .before .before .before .before .before))

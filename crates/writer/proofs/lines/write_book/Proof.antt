@@ -40,7 +40,8 @@ returns c =
     let a = w₁ .write-number in
     let b = w₂ .write-word in
     let d = w₃ .write-bids in
-    wrote-book (s .args .out .now) 0 (bookEntries (s .args .book)) (a .last .0) (b .last .0) (d .last .0) (a .result) (b .result) (d .result) (omega (arith, s .pre .1)) (a .ensures) (b .ensures) (d .ensures)
+    wrote-book (s .args .out .now) 0 (bookEntries (s .args .book)) (a .last .0) (b .last .0) (d .last .0) (a .result) (b .result)
+    (d .result) (omega (arith, s .pre .1)) (a .ensures) (b .ensures) (d .ensures)
 
 pub write-book-spec : {M : Type 1} → statement M
 write-book-spec =

@@ -17,12 +17,14 @@ fits : (c : tie.After-struct-told) → SFits w64 (c .before .before .before .arg
 fits c = search needs
 
 -- the digits written are those of the price
-with-sign : (c : tie.After-magnitude) → signedDigits (c .before .before .before .before .before .before .before .args .fixed .0) ≡ ascii "-" ++ digits (c .magnitude .result)
+with-sign : (c : tie.After-magnitude)
+    → signedDigits (c .before .before .before .before .before .before .before .args .fixed .0) ≡ ascii "-" ++ digits (c .magnitude .result)
 with-sign c =
     let t = c .before .before .before in
     negative-digits _ (fits (t .before)) (t .if1 .taken) ∙ ap (λ (n : ℕ). ascii "-" ++ digits n) (sym (c .magnitude .ensures))
 
-without-sign : (c : tie.After-magnitude2) → signedDigits (c .before .before .before .before .before .before .before .args .fixed .0) ≡ digits (c .magnitude2 .result)
+without-sign : (c : tie.After-magnitude2)
+    → signedDigits (c .before .before .before .before .before .before .before .args .fixed .0) ≡ digits (c .magnitude2 .result)
 without-sign c =
     let t = c .before .before .before in
     plain-digits _ (fits (t .before)) (t .if1 .left) ∙ ap digits (sym (c .magnitude2 .ensures))
@@ -45,7 +47,8 @@ returns c =
     let a = m .before .before .before .before .before .before .before .args in
     let w = c .before .before .write-number in
     let same = ap (λ (l : List ℕ). ascii " " ++ l) (sym (with-sign m)) in
-    wrote-as (a .out .now) (a .at) (ascii " -" ++ digits (m .magnitude .result)) (ascii " " ++ signedDigits (a .fixed .0)) (w .last .0) (w .result) same (w .ensures)
+    wrote-as (a .out .now) (a .at) (ascii " -" ++ digits (m .magnitude .result)) (ascii " " ++ signedDigits (a .fixed .0)) (w .last .0)
+    (w .result) same (w .ensures)
 
 slice-aggregate-write-number-2 : tie.Need-slice-aggregate-write-number-2
 slice-aggregate-write-number-2 c = search needs
@@ -65,7 +68,8 @@ returns-2 c =
     let a = m .before .before .before .before .before .before .before .args in
     let w = c .before .before .write-number2 in
     let same = ap (λ (l : List ℕ). ascii " " ++ l) (sym (without-sign m)) in
-    wrote-as (a .out .now) (a .at) (ascii " " ++ digits (m .magnitude2 .result)) (ascii " " ++ signedDigits (a .fixed .0)) (w .last .0) (w .result) same (w .ensures)
+    wrote-as (a .out .now) (a .at) (ascii " " ++ digits (m .magnitude2 .result)) (ascii " " ++ signedDigits (a .fixed .0)) (w .last .0)
+    (w .result) same (w .ensures)
 
 pub write-fixed-spec : {M : Type 1} → statement M
 write-fixed-spec =

@@ -57,7 +57,9 @@ loop-again c =
     let b = a .t3 in
     let at = l .before .loop in
     let room = l .before .before .before .pre .1 in
-    let next = wrote-next (a .out .now) (a .at) segmentText (b .segments) (at .i) (b .count) noSegment (at .out) (at .next) (w .last .0) (w .result) in
+    let next =
+    wrote-next (a .out .now) (a .at) segmentText (b .segments) (at .i) (b .count) noSegment (at .out) (at .next) (w .last .0)
+    (w .result) in
     (omega arith, w .kept .0 ∙ at .inv .1, next (l .loop-test .taken) (held l) room (at .inv .2) (w .ensures))
 
 same-length : tie.Need-same-length Inv-loop μ-loop
