@@ -22,9 +22,9 @@ isDigit b = leb 48 b && leb b 57
 abbrev pub isFirst : ℕ → ℕ → Bool
 isFirst least b = leb (48 + least) b && leb b 57
 
-abbrev pub firstOf : ℕ → List ℕ → Bool
-firstOf least [] = false
-firstOf least (b ∷ t) = isFirst least b
+abbrev pub beginsNumber : ℕ → List ℕ → Bool
+beginsNumber least [] = false
+beginsNumber least (b ∷ t) = isFirst least b
 
 -- after the digits of v the digit b may follow
 abbrev pub goesOn : ℕ → ℕ → Bool

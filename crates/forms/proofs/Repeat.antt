@@ -7,6 +7,7 @@ use mathlib.Core.Path.{_≡_, refl, sym, ap, _∙_, subst}
 use borrow.Author.Tests.{eqb-true, eqb-false}
 use lib.ListN.{length, drop, length-drop}
 use Rattle.lists.specs.Joined.{joined}
+use Rattle.lists.proofs.Tests.{both-left, both-right, not-is}
 use Rattle.forms.proofs.Parse.{Parse, parsed, stopped, after}
 use Rattle.forms.proofs.Form.{Form, startsWith}
 use Rattle.forms.proofs.Many.{Headed, many, many-within, then-more, none-left, no-item, with-item, enough}
@@ -78,18 +79,10 @@ module _ {A : Type 0} (x : ℕ) (p : Form A) (heads : Headed x p) (again : p .Ma
   -- the code's test tells that another item begins
   module _ (e : ℕ) (stop : Bool) (test : not stop && startsWith x (drop e t) ≡ true) (a : A) (g : ℕ) (last : Bool) (item : Reads p t e stop a g last) where
     pub going : stop ≡ false
-    going = go stop test
-      where
-        go : (w : Bool) → not w && startsWith x (drop e t) ≡ true → w ≡ false
-        go true h = absurd (true≢false (sym h))
-        go false h = refl
+    going = not-is stop (both-left (not stop) (startsWith x (drop e t)) test)
 
     begins : startsWith x (drop e t) ≡ true
-    begins = go stop test
-      where
-        go : (w : Bool) → not w && startsWith x (drop e t) ≡ true → startsWith x (drop e t) ≡ true
-        go true h = absurd (true≢false (sym h))
-        go false h = h
+    begins = both-right (not stop) (startsWith x (drop e t)) test
 
     gives : Gives p t e a g last
     gives = subst (λ (w : Bool). Reads p t e w a g last) going item

@@ -17,3 +17,7 @@ both-left false b e = e
 pub both-right : (a b : Bool) → a && b ≡ true → b ≡ true
 both-right true b e = e
 both-right false b e = absurd (false≢true e)
+
+pub not-is : (a : Bool) → not a ≡ true → a ≡ false
+not-is true e = absurd (false≢true e)
+not-is false e = refl

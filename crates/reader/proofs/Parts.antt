@@ -24,6 +24,10 @@ module _ (t : List ℕ) where
   then p q follows from a mid b next x y =
       reads-both p q follows t (from .at) (from .stopped) a (mid .at) (mid .stopped) b (next .at) (next .stopped) x y
 
+  with-word : (w : List ℕ) (follows : Follows plain (word w)) (from : Cursor) (n : ℕ) (next : Cursor) → ScansField w t from n next
+      → Scans (field w follows) t from (n, tt) next
+  with-word w follows from n next s = then plain (word w) follows from n (s .0) tt next (s .1) (s .2)
+
   pub segment-scanned : (from n0 : Cursor) (start : ℕ) (n1 : Cursor) (end : ℕ) (n2 : Cursor) (unit : ℕ) (n3 : Cursor) (fixed : ℤ) (n4 next : Cursor)
       → Scans (word (ascii " (seg ")) t from tt n0
       → ScansField (ascii " ") t n0 start n1
@@ -36,11 +40,15 @@ module _ (t : List ℕ) where
   segment-scanned from n0 start n1 end n2 unit n3 fixed n4 next s0 s1 s2 s3 s4 s5 =
       let f = field (ascii " ") number-space in
       let x4 = then signed (word (ascii ")")) signed-close n3 fixed n4 tt next s4 s5 in
-      let x3 = then f fixed-close (after-field (ascii " ") number-space fixed-close) n2 (unit, tt) n3 (fixed, tt) next (s3 number-space) x4 in
-      let x2 = then f prices (after-field (ascii " ") number-space prices) n1 (end, tt) n2 ((unit, tt), (fixed, tt)) next (s2 number-space) x3 in
+      let x3 =
+      then f fixed-close (after-field (ascii " ") number-space fixed-close) n2 (unit, tt) n3 (fixed, tt) next
+      (with-word (ascii " ") number-space n2 unit n3 s3) x4 in
+      let x2 =
+      then f prices (after-field (ascii " ") number-space prices) n1 (end, tt) n2 ((unit, tt), (fixed, tt)) next
+      (with-word (ascii " ") number-space n1 end n2 s2) x3 in
       let x1 =
       then f end-prices (after-field (ascii " ") number-space end-prices) n0 (start, tt) n1 ((end, tt), ((unit, tt), (fixed, tt))) next
-      (s1 number-space) x2 in
+      (with-word (ascii " ") number-space n0 start n1 s1) x2 in
       let parts : (ℕ × Unit {0}) × ((ℕ × Unit {0}) × Prices) = ((start, tt), ((end, tt), ((unit, tt), (fixed, tt)))) in
       let x0 = then (word (ascii " (seg ")) start-end-prices (after-word (ascii " (seg ") start-end-prices) from tt n0 parts next s0 x1 in
       reads-via segment-parts toSegment fromSegment WellFormedSegment segmentText same-segment t (from .at) (from .stopped) (tt, parts)
@@ -67,7 +75,7 @@ module _ (t : List ℕ) where
   book-scanned from n0 demand n1 xs next s0 s1 s2 =
       let x1 =
       then (field (ascii ")\n") number-line) bids (after-field
-      (ascii ")\n") number-line bids) n0 (demand, tt) n1 xs next (s1 number-line) s2 in
+      (ascii ")\n") number-line bids) n0 (demand, tt) n1 xs next (with-word (ascii ")\n") number-line n0 demand n1 s1) s2 in
       let x0 = then (word (ascii "(demand ")) demand-bids (after-word (ascii "(demand ") demand-bids) from tt n0 ((demand, tt), xs) next s0 x1 in
       reads-via book-parts toBook fromBook WellFormedBook bookText same-book t (from .at) (from .stopped) (tt, ((demand, tt), xs))
       (next .at) (next .stopped) x0

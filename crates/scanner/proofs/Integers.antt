@@ -4,41 +4,28 @@ use mathlib.Core.Bool.{Bool, true, false, not, _&&_, true≢false}
 use mathlib.Core.List.{List}
 use mathlib.Core.Logic.{inl, inr}
 use mathlib.Core.Path.{_≡_, refl, sym, _∙_, subst}
-use borrow.Author.Tests.{ltb-true, ltb-false}
-use lib.Dec.{ltb}
 use lib.IntN.{pos, negℤ}
 use lib.ListN.{length, drop}
+use Rattle.lists.proofs.Tests.{both-left, both-right, not-is}
 use Rattle.forms.specs.Digits.{signedDigits}
 use Rattle.forms.proofs.Form.{startsWith}
 use Rattle.forms.proofs.Number.{number}
 use Rattle.forms.proofs.Signed.{signed, from-0, from-1, no-minus, minus-or-none, integer, sides, ThirteenDigits, same-integers}
 use Rattle.forms.proofs.Place.{Reads, gives-left, gives-right, reads-via}
-use Rattle.scanner.proofs.Numbers.{starts-past}
-
--- the code's test: parsing goes on, and with this byte
-going : (before b : Bool) → not before && b ≡ true → (before ≡ false) × (b ≡ true)
-going true b e = absurd (true≢false (sym e))
-going false b e = (refl, e)
+use Rattle.scanner.proofs.Bytes.{starts-within}
 
 module _ (t : List ℕ) (i : ℕ) (before : Bool) where
-  pub begins-going : (x : ℕ) → not before && startsWith x (drop i t) ≡ true → (before ≡ false) × (startsWith x (drop i t) ≡ true)
-  begins-going x e = going before (startsWith x (drop i t)) e
-
-  -- there is such a byte
+  -- the code's test tells that there is such a byte
   pub begins-within : (x : ℕ) → not before && startsWith x (drop i t) ≡ true → i < length t
-  begins-within x e = side (ltb i (length t)) refl
-    where
-      side : (b : Bool) → ltb i (length t) ≡ b → i < length t
-      side true q = ltb-true i (length t) q
-      side false q = absurd (true≢false (sym (begins-going x e .1) ∙ starts-past t i x (ltb-false i (length t) q)))
+  begins-within x e = starts-within x t i (both-right (not before) (startsWith x (drop i t)) e)
 
   pub signed-minus : (n e : ℕ) (stop : Bool) → not before && startsWith 45 (drop i t) ≡ true → Reads (number 1 from-1) t (i + 1) false n e stop
       → Reads signed t i before (negℤ (pos n)) e stop
   signed-minus n e stop h g =
-      let b = begins-going 45 h in
+      let b = startsWith 45 (drop i t) in
       reads-via minus-or-none integer sides ThirteenDigits signedDigits same-integers t i before (inl n) e stop
-      (subst (λ (k : Bool). Reads minus-or-none t i k (inl n) e stop) (sym (b .0))
-      (gives-left 45 (number 1 from-1) (number 0 from-0) no-minus t i n e stop (b .1) g))
+      (subst (λ (k : Bool). Reads minus-or-none t i k (inl n) e stop) (sym (not-is before (both-left (not before) b h)))
+      (gives-left 45 (number 1 from-1) (number 0 from-0) no-minus t i n e stop (both-right (not before) b h) g))
 
   pub signed-plain : (n e : ℕ) (stop : Bool) → not before && startsWith 45 (drop i t) ≡ false → Reads (number 0 from-0) t i before n e stop
       → Reads signed t i before (pos n) e stop

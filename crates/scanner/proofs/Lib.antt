@@ -1,3 +1,5 @@
+mod Bytes
+mod Steps
 mod Words
 mod Numbers
 mod Negatives

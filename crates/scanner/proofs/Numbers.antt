@@ -5,30 +5,26 @@ use mathlib.Core.Bool.{Bool, true, false, true≢false}
 use mathlib.Core.List.{List, [], _∷_}
 use mathlib.Core.Path.{_≡_, refl, sym, ap, _∙_}
 use borrow.Author.Tests.{ltb-true, ltb-false}
-use lib.Dec.{ltb, eqb}
+use lib.Dec.{ltb}
 use lib.ListN.{length, drop, getD, drop-of-length-le}
 use Rattle.lists.proofs.Slices.{drop-next}
 use Rattle.forms.proofs.Parse.{parsed, stopped}
-use Rattle.forms.proofs.Form.{startsWith}
-use Rattle.forms.proofs.Number.{number, number-parse, further, goesOn, isFirst, firstOf, goes, first-low, first-high}
+use Rattle.forms.proofs.Number.{number, number-parse, further, goesOn, isFirst, beginsNumber, goes, first-low, first-high}
 use Rattle.forms.proofs.Place.{Found, Stops}
+use Rattle.scanner.specs.declared.Cursor.{Cursor}
+use Rattle.scanner.specs.declared.ParsedNumber.{ParsedNumber}
+use Rattle.scanner.specs.Scans.{ScansNumber}
 
 -- the first byte, looked at
 module _ (t : List ℕ) (at : ℕ) where
-  pub starts-at : (x : ℕ) → at < length t → startsWith x (drop at t) ≡ eqb (getD t at 0) x
-  starts-at x h = rw (drop-next t at 0 h)
-
-  pub starts-past : (x : ℕ) → length t ≤ at → startsWith x (drop at t) ≡ false
-  starts-past x h = rw (drop-of-length-le t h)
-
-  pub first-at : (least : ℕ) → at < length t → firstOf least (drop at t) ≡ isFirst least (getD t at 0)
+  pub first-at : (least : ℕ) → at < length t → beginsNumber least (drop at t) ≡ isFirst least (getD t at 0)
   first-at least h = rw (drop-next t at 0 h)
 
-  pub first-past : (least : ℕ) → length t ≤ at → firstOf least (drop at t) ≡ false
+  pub first-past : (least : ℕ) → length t ≤ at → beginsNumber least (drop at t) ≡ false
   first-past least h = rw (drop-of-length-le t h)
 
   -- a first digit is a byte of the text
-  pub first-within : (least : ℕ) → firstOf least (drop at t) ≡ true → at < length t
+  pub first-within : (least : ℕ) → beginsNumber least (drop at t) ≡ true → at < length t
   first-within least e = go (ltb at (length t)) refl
     where
       go : (x : Bool) → ltb at (length t) ≡ x → at < length t
@@ -37,12 +33,12 @@ module _ (t : List ℕ) (at : ℕ) where
 
 module _ (least : ℕ) (small : least ≤ 1) (t : List ℕ) (at : ℕ) where
   -- no number begins here
-  pub number-none : at ≤ length t → firstOf least (drop at t) ≡ false → Stops (number least small) t at at
+  pub number-none : at ≤ length t → beginsNumber least (drop at t) ≡ false → Stops (number least small) t at at
   unfolding number-parse
   number-none h e =
       record { finds = go (drop at t) e ∙ ap (λ (k : ℕ). stopped k) (let z : 0 ≡ at - at = omega arith in z); from = omega arith; to = h }
     where
-      go : (s : List ℕ) → firstOf least s ≡ false → number-parse least s ≡ stopped 0
+      go : (s : List ℕ) → beginsNumber least s ≡ false → number-parse least s ≡ stopped 0
       go [] q = refl
       go (b ∷ s) q = rw q
 
@@ -53,10 +49,10 @@ module _ (least : ℕ) (small : least ≤ 1) (t : List ℕ) (at : ℕ) where
     pub few : v < 10000000000000
     pub same : number-parse least (drop at t) ≡ further v (drop i t)
 
-  pub first-digit : firstOf least (drop at t) ≡ true → 48 ≤ getD t at 0
+  pub first-digit : beginsNumber least (drop at t) ≡ true → 48 ≤ getD t at 0
   first-digit e = omega (arith, first-low least small (getD t at 0) (sym (first-at t at least (first-within t at least e)) ∙ e))
 
-  pub number-first : (v : ℕ) → firstOf least (drop at t) ≡ true → v ≡ getD t at 0 - 48 → Digits v (at + 1)
+  pub number-first : (v : ℕ) → beginsNumber least (drop at t) ≡ true → v ≡ getD t at 0 - 48 → Digits v (at + 1)
   unfolding number-parse
   number-first v e d =
       let h = first-within t at least e in
@@ -96,3 +92,7 @@ module _ (least : ℕ) (small : least ≤ 1) (t : List ℕ) (at : ℕ) where
             few = omega (arith, q, g .few, g .high, g .low);
             same = l .same ∙ rw (drop-next t i 0 more, e, q);
           }
+
+-- what `number` answers
+abbrev pub Answered : ℕ → List ℕ → Cursor → ParsedNumber → Type 0
+Answered least t from r = (r .value < 10000000000000) × (ScansNumber least t from (r .value) (r .next) × (r .next .at ≤ length t))

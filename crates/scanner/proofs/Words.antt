@@ -3,14 +3,16 @@ use Prim.Native.Nat.{ℕ, suc, _+_, _-_, _≤_, _<_}
 use native.Mathlib.Nat.{add-zero}
 use native.Mathlib.Numerals.{add-one}
 use native.Mathlib.Omega.{arith}
-use mathlib.Core.List.{List, _∷_}
+use mathlib.Core.Bool.{true, false, true≢false}
+use mathlib.Core.List.{List, [], _∷_}
 use mathlib.Core.Path.{_≡_, refl, sym, ap, ap₂, _∙_}
-use borrow.Author.Tests.{eq-eqb, ne-eqb}
 use lib.ListN.{length, drop, getD, drop-of-length-le}
-use lib.Seq.{drop-cons}
+use lib.Seq.{drop-cons, drop-drop}
 use Rattle.forms.proofs.Parse.{Parse, parsed, stopped, after}
+use Rattle.forms.proofs.Form.{startsWith}
 use Rattle.forms.proofs.Word.{word, word-parse}
 use Rattle.forms.proofs.Place.{Found, Stops}
+use Rattle.scanner.proofs.Bytes.{starts-within}
 
 abbrev on : ℕ → Parse (Unit {0}) → Parse (Unit {0})
 on k = after k (λ x. x)
@@ -59,29 +61,34 @@ module _ (t w : List ℕ) (at i : ℕ) (l : Along t w at i) where
           to = l .in-text;
         }
 
-    -- the text ends
-    pub along-end : length t - at ≤ i → Stops (word w) t at (at + i)
+    -- another byte stands there, or none
+    pub along-stop : startsWith (getD w i 0) (drop (at + i) t) ≡ false → Stops (word w) t at (at + i)
     unfolding word-parse
-    along-end h = stops-here (ap (word-parse (getD w i 0 ∷ drop (suc i) w)) (drop-of-length-le t (let z : length t ≤ at + i = omega arith in z)))
-
-    -- another byte stands there
-    pub along-differ : at + i < length t → (getD t (at + i) 0 ≡ getD w i 0 → ⊥) → Stops (word w) t at (at + i)
-    unfolding word-parse
-    along-differ h n = stops-here (rw (drop-cons t (at + i) 0 h, ne-eqb (getD t (at + i) 0) (getD w i 0) n))
+    along-stop e = stops-here (go (drop (at + i) t) e)
+      where
+        go : (s : List ℕ) → startsWith (getD w i 0) s ≡ false → word-parse (getD w i 0 ∷ drop (suc i) w) s ≡ stopped 0
+        go [] q = refl
+        go (b ∷ s) q = rw q
 
     -- the same byte
-    pub along-next : at + i < length t → getD t (at + i) 0 ≡ getD w i 0 → Along t w at (i + 1)
+    same-byte : (s : List ℕ) → startsWith (getD w i 0) s ≡ true
+        → word-parse (getD w i 0 ∷ drop (suc i) w) s ≡ on 1 (word-parse (drop (suc i) w) (drop 1 s))
     unfolding word-parse
-    along-next h e =
-        let z : suc (at + i) ≡ at + (i + 1) = omega arith in
-        let step : word-parse (drop i w) (drop (at + i) t) ≡ on 1 (word-parse (drop (suc i) w) (drop (suc (at + i)) t)) =
-        rw (here, drop-cons t (at + i) 0 h, eq-eqb (getD t (at + i) 0) (getD w i 0) e) in
+    same-byte [] q = absurd (true≢false (sym q))
+    same-byte (b ∷ s) q = rw q
+
+    pub along-next : startsWith (getD w i 0) (drop (at + i) t) ≡ true → Along t w at (i + 1)
+    along-next e =
+        let h = starts-within (getD w i 0) t (at + i) e in
+        let z : at + i + 1 ≡ at + (i + 1) = omega arith in
+        let rest : drop 1 (drop (at + i) t) ≡ drop (at + (i + 1)) t = drop-drop 1 (at + i) t ∙ ap (λ (k : ℕ). drop k t) z in
         record {
           in-word = omega arith;
           in-text = omega arith;
           same =
               l .same
-              ∙ ap (on i) step
-              ∙ on-on i (word-parse (drop (suc i) w) (drop (suc (at + i)) t))
-              ∙ ap₂ (λ (j k : ℕ). on (i + 1) (word-parse (drop j w) (drop k t))) (sym (add-one i)) z;
+              ∙ ap (λ (v : List ℕ). on i (word-parse v (drop (at + i) t))) here
+              ∙ ap (on i) (same-byte (drop (at + i) t) e)
+              ∙ on-on i (word-parse (drop (suc i) w) (drop 1 (drop (at + i) t)))
+              ∙ ap₂ (λ (j : ℕ) (s : List ℕ). on (i + 1) (word-parse (drop j w) s)) (sym (add-one i)) rest;
         }

@@ -1,11 +1,10 @@
--- What a scanner's function has done with a cursor.
+-- For the contracts of the scanner and of the readers above it: what was parsed from one cursor to the next.
 use Prim.Native.Nat.{ℕ, _≤_}
 use mathlib.Core.List.{List}
 use Rattle.forms.proofs.Form.{Form}
 use Rattle.forms.proofs.Word.{word}
 use Rattle.forms.proofs.Number.{number}
 use Rattle.forms.proofs.Signed.{from-0}
-use Rattle.forms.proofs.Pair.{pair, Follows}
 use Rattle.forms.proofs.Place.{Reads}
 use Rattle.scanner.specs.declared.Cursor.{Cursor}
 
@@ -17,6 +16,6 @@ Scans p t from a next = Reads p t (from .at) (from .stopped) a (next .at) (next 
 abbrev pub ScansNumber : ℕ → List ℕ → Cursor → ℕ → Cursor → Type 0
 ScansNumber least t from n next = (small : least ≤ 1) → Scans (number least small) t from n next
 
--- a number and the word w, which begins with no digit
+-- a number and then the word w
 abbrev pub ScansField : List ℕ → List ℕ → Cursor → ℕ → Cursor → Type 0
-ScansField w t from n next = (follows : Follows (number 0 from-0) (word w)) → Scans (pair (number 0 from-0) (word w) follows) t from (n, tt) next
+ScansField w t from n next = (between : Cursor) × Scans (number 0 from-0) t from n between × Scans (word w) t between tt next

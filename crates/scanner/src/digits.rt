@@ -2,12 +2,12 @@
 ghost use mathlib.Core.Path.{_≡_};
 ghost use Prim.Native.Nat.{_-_, _≤_, _<_};
 ghost use lib.ListN.{drop};
-ghost use Rattle.forms.proofs.Number.{goesOn, firstOf};
+ghost use Rattle.forms.proofs.Number.{goesOn, beginsNumber};
 
 // Whether a number that is at least `least` can begin at the place.
 pub fn is_first_at(text: &[u8], at: usize, least: u8) -> bool
     requires { ⌜ least ≤ 1 ⌝ }
-    ensures { λ r. ⌜ r ≡ firstOf least (drop at (now (text .entry))) ⌝ }
+    ensures { λ r. ⌜ r ≡ beginsNumber least (drop at (now (text .entry))) ⌝ }
 {
     if text.len() <= at {
         return false;
@@ -35,6 +35,7 @@ pub fn goes_on(v: u64, b: u8) -> bool
     b <= 57
 }
 
+// The digit's number.
 pub fn value_of(b: u8) -> u64
     requires { ⌜ 48 ≤ b ⌝ }
     ensures { λ r. ⌜ r ≡ b - 48 ⌝ }

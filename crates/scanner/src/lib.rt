@@ -1,7 +1,7 @@
 // Words and numbers of a text, parsed where they stand: nothing of the text is copied. The functions are pub for the readers of
 // texts, which put them together. Each takes the cursor that the one before it gave, and does nothing once parsing has stopped.
 ghost use mathlib.Core.Path.{_≡_};
-ghost use mathlib.Core.Bool.{not, _&&_};
+ghost use mathlib.Core.Bool.{true, false, not, _&&_};
 ghost use Prim.Native.Nat.{_≤_, _<_};
 ghost use lib.ListN.{length, drop};
 ghost use Rattle.forms.proofs.Form.{startsWith};
@@ -9,10 +9,11 @@ ghost use Rattle.forms.proofs.Word as Word;
 ghost use Rattle.forms.proofs.Signed as Signed;
 ghost use Rattle.scanner.specs.Scans.{Scans, ScansNumber, ScansField};
 
+// The parts of a number. The modules are private: what is pub in them serves this crate alone.
 mod digits;
 mod signs;
 
-// Where parsing stands: at the place of the next byte, or stopped there for good.
+// Where parsing stands: at the place of the next byte, or stopped there.
 pub struct Cursor {
     pub at: usize,
     pub stopped: bool,
@@ -29,6 +30,22 @@ pub struct ParsedInteger {
     pub next: Cursor,
 }
 
+fn stop(at: usize) -> Cursor
+    ensures { λ r. ⌜ r ≡ record { at = at; stopped = true } ⌝ }
+{
+    Cursor { at, stopped: true }
+}
+
+// Whether the byte b stands at the place.
+fn byte_at(text: &[u8], at: usize, b: u8) -> bool
+    ensures { λ r. ⌜ r ≡ startsWith b (drop at (now (text .entry))) ⌝ }
+{
+    if text.len() <= at {
+        return false;
+    }
+    text[at] == b
+}
+
 // The bytes of w.
 pub fn word(text: &[u8], from: Cursor, w: &[u8]) -> Cursor
     requires { ⌜ from .at ≤ length (now text) ⌝ }
@@ -41,17 +58,8 @@ pub fn word(text: &[u8], from: Cursor, w: &[u8]) -> Cursor
     let at = from.at;
     let mut i: usize = 0;
     while i < w.len() {
-        if text.len() - at <= i {
-            return Cursor {
-                at: at + i,
-                stopped: true,
-            };
-        }
-        if text[at + i] != w[i] {
-            return Cursor {
-                at: at + i,
-                stopped: true,
-            };
+        if !byte_at(text, at + i, w[i]) {
+            return stop(at + i);
         }
         i += 1;
     }
@@ -77,33 +85,29 @@ pub fn number(text: &[u8], from: Cursor, least: u8) -> ParsedNumber
     }
     let at = from.at;
     if !digits::is_first_at(text, at, least) {
-        return ParsedNumber {
-            value: 0,
-            next: Cursor { at, stopped: true },
-        };
+        let next = stop(at);
+        return ParsedNumber { value: 0, next };
     }
     let mut value = digits::value_of(text[at]);
     let mut i = at + 1;
     while i < text.len() {
         let b = text[i];
         if !digits::goes_on(value, b) {
-            return ParsedNumber {
-                value,
-                next: Cursor {
-                    at: i,
-                    stopped: false,
-                },
-            };
+            return number_to(value, i);
         }
         value = value * 10 + digits::value_of(b);
         i += 1;
     }
+    number_to(value, i)
+}
+
+// A number that ends before the place.
+fn number_to(value: u64, at: usize) -> ParsedNumber
+    ensures { λ r. ⌜ r ≡ record { value = value; next = record { at = at; stopped = false } } ⌝ }
+{
     ParsedNumber {
         value,
-        next: Cursor {
-            at: i,
-            stopped: false,
-        },
+        next: Cursor { at, stopped: false },
     }
 }
 
@@ -159,9 +163,5 @@ pub fn begins(text: &[u8], from: Cursor, b: u8) -> bool
     if from.stopped {
         return false;
     }
-    let at = from.at;
-    if text.len() <= at {
-        return false;
-    }
-    text[at] == b
+    byte_at(text, from.at, b)
 }

@@ -1,13 +1,21 @@
 use Prim.Native.Nat.{_-_, _≤_}
 use native.Mathlib.Omega.{arith}
-use mathlib.Core.Bool.{true, false}
+use mathlib.Core.Path.{refl, sym, subst}
 use lib.ListN.{length, getD}
 use Rattle.lists.proofs.Tests.{passed, failed}
 use Rattle.forms.proofs.Number.{number, goes}
-use Rattle.forms.proofs.Place.{reads-still, reads-going}
-use Rattle.scanner.proofs.Numbers.{Digits, first-within, first-digit, number-none, number-first, number-ends, number-stops, number-goes}
+use Rattle.scanner.specs.declared.Cursor.{Cursor}
+use Rattle.scanner.proofs.Steps.{still, found, halted}
+use Rattle.scanner.proofs.Numbers.{Answered, Digits, first-within, first-digit, number-none, number-first, number-ends, number-stops, number-goes}
 use Rattle.scanner.proofs.number.Statement.{statement}
 use Rattle.scanner.proofs.number.Tie as tie
+use Rattle.scanner.proofs.number.Reads as reads
+use Rattle.scanner.proofs.number.Lts as lts
+use Rattle.scanner.proofs.digits.goes_on.Reads as goes-on-reads
+use Rattle.scanner.proofs.digits.is_first_at.Reads as is-first-at-reads
+use Rattle.scanner.proofs.digits.value_of.Reads as value-of-reads
+use Rattle.scanner.proofs.number_to.Reads as number-to-reads
+use Rattle.scanner.proofs.stop.Reads as stop-reads
 
 abbrev Inv-loop : tie.InvT-loop
 Inv-loop text least at value₀ i₀ value i = (small : least ≤ 1) → Digits least small text at value i
@@ -15,149 +23,109 @@ Inv-loop text least at value₀ i₀ value i = (small : least ≤ 1) → Digits 
 abbrev μ-loop : tie.MeasureT-loop
 μ-loop text least at value₀ i₀ value i = length text - i
 
--- src/lib.rt:62:9
 returns : tie.Need-returns Inv-loop μ-loop
 returns c =
-    let a = c .before .before .args in (
-      omega arith,
-      (
-        λ small. reads-still (number (a .least) small) (a .text .now) (a .from .at) (a .from .stopped) 0 (c .if1 .taken),
-        c .before .before .pre .0,
-      ),
-    )
+    let a = c .before .before .args in
+    (omega arith, (λ small. still (number (a .least) small) (a .text .now) (a .from) 0 (c .if1 .taken), c .before .before .pre .0))
 
--- src/lib.rt:65:9
 is-first-at-requires : tie.Need-is-first-at-requires Inv-loop μ-loop
 is-first-at-requires c κs = c .before .before .pre .1
 
--- src/lib.rt:66:9
+stop-requires : tie.Need-stop-requires Inv-loop μ-loop
+stop-requires c κs = tt
+
 returns-2 : tie.Need-returns-2 Inv-loop μ-loop
 returns-2 c =
-    let a = c .before .before .before .before .args in (
+    let a = c .before .before .before .before .before .args in
+    let none = failed (c .before .before .is-first-at .ensures) (c .before .if2 .taken) in (
       omega arith,
       (
-        λ small.
-            reads-going (number (a .least) small) (a .text .now) (a .from .at) (a .from .stopped) 0 (a .from .at) true
-            (c .before .before .if1 .left)
-            (number-none (a .least) small (a .text .now) (a .from .at) (c .before .before .before .before .pre .0)
-            (failed (c .before .is-first-at .ensures) (c .if2 .taken))),
-        c .before .before .before .before .pre .0,
+        λ small. halted (number (a .least) small) (a .text .now) (a .from) 0 (c .before .before .before .if1 .left) (a .from .at) (c .stop .result) (c .stop .ensures)
+            (number-none (a .least) small (a .text .now) (a .from .at) (c .before .before .before .before .before .pre .0) none),
+        subst (λ (n : Cursor). n .at ≤ length (a .text .now)) (sym (c .stop .ensures)) (c .before .before .before .before .before .pre .0),
       ),
     )
 
--- src/lib.rt:71:38
 shared-slice-read-value-of : tie.Need-shared-slice-read-value-of Inv-loop μ-loop
-shared-slice-read-value-of c =
-    let a = c .before .before .before .before .before .args in
-    first-within (a .text .now) (a .from .at) (a .least) (passed (c .before .before .is-first-at .ensures) (c .before .if2 .left))
+shared-slice-read-value-of c = let a = c .before .before .before .before .before .args in first-within (a .text .now) (a .from .at) (a .least) (passed (c .before .before .is-first-at .ensures) (c .before .if2 .left))
 
--- src/lib.rt:71:9
 value-of-requires : tie.Need-value-of-requires Inv-loop μ-loop
-value-of-requires c κs =
-    let a = c .before .before .before .before .before .args in
-    first-digit (a .least) (c .before .before .before .before .before .pre .1) (a .text .now) (a .from .at)
-    (passed (c .before .before .is-first-at .ensures) (c .before .if2 .left))
+value-of-requires c κs = let a = c .before .before .before .before .before .args in first-digit (a .least) (c .before .before .before .before .before .pre .1) (a .text .now) (a .from .at) (passed (c .before .before .is-first-at .ensures) (c .before .if2 .left))
 
--- src/lib.rt:72:17
 add-i : tie.Need-add-i Inv-loop μ-loop
-add-i c =
-    let a = c .before .before .before .before .before .before .args in
-    omega (
-      arith,
-      first-within (a .text .now) (a .from .at) (a .least)
-          (passed (c .before .before .before .is-first-at .ensures) (c .before .before .if2 .left)),
-    )
+add-i c = let a = c .before .before .before .before .before .before .args in omega (arith, first-within (a .text .now) (a .from .at) (a .least) (passed (c .before .before .before .is-first-at .ensures) (c .before .before .if2 .left)))
 
--- src/lib.rt:73:5
 loop-holds : tie.Need-loop-holds Inv-loop μ-loop
 loop-holds c =
     let a = c .before .before .before .before .before .before .args in
-    λ small.
-    number-first (a .least) small (a .text .now) (a .from .at) (c .value-of .result)
-    (passed (c .before .before .before .is-first-at .ensures) (c .before .before .if2 .left)) (c .value-of .ensures)
+    let first = passed (c .before .before .before .is-first-at .ensures) (c .before .before .if2 .left) in
+    λ small. number-first (a .least) small (a .text .now) (a .from .at) (c .value-of .result) first (c .value-of .ensures)
 
--- src/lib.rt:74:17
 shared-slice-read-b : tie.Need-shared-slice-read-b Inv-loop μ-loop
 shared-slice-read-b c = omega arith
 
--- src/lib.rt:75:13
 goes-on-requires : tie.Need-goes-on-requires Inv-loop μ-loop
 goes-on-requires c κs = tt
 
--- src/lib.rt:76:13
+number-to-requires : tie.Need-number-to-requires Inv-loop μ-loop
+number-to-requires c κs = tt
+
 returns-3 : tie.Need-returns-3 Inv-loop μ-loop
 returns-3 c =
-    let a = c .before .before .before .before .before .before .before .before .before .before .before .args in
-    let l = c .before .before .before .before .loop in (
-      l .inv (c .before .before .before .before .before .before .before .before .before .before .before .pre .1) .few,
+    let a = c .before .before .before .before .before .before .before .before .before .before .before .before .args in
+    let l = c .before .before .before .before .before .loop in
+    let small₀ = c .before .before .before .before .before .before .before .before .before .before .before .before .pre .1 in
+    let ends = failed (c .before .before .goes-on .ensures) (c .before .if3 .taken) in
+    subst (Answered (a .least) (a .text .now) (a .from)) (sym (c .number-to .ensures)) (
+      l .inv small₀ .few,
       (
-        λ small.
-            reads-going (number (a .least) small) (a .text .now) (a .from .at) (a .from .stopped) (l .value) (l .i) false
-            (c .before .before .before .before .before .before .before .before .before .if1 .left)
-            (number-stops (a .least) small (a .text .now) (a .from .at) (l .value) (l .i) (l .inv small) (omega arith)
-            (failed (c .before .goes-on .ensures) (c .if3 .taken))),
-        l .inv (c .before .before .before .before .before .before .before .before .before .before .before .pre .1) .to,
+        λ small. found (number (a .least) small) (a .text .now) (a .from) (l .value) (c .before .before .before .before .before .before .before .before .before .before .if1 .left) (l .i) _ refl
+            (number-stops (a .least) small (a .text .now) (a .from .at) (l .value) (l .i) (l .inv small) (omega arith) ends),
+        l .inv small₀ .to,
       ),
     )
 
--- src/lib.rt:81:17
 mul-value : tie.Need-mul-value Inv-loop μ-loop
-mul-value c =
-    omega (
-      arith,
-      c .before .before .before .before .loop .inv
-          (c .before .before .before .before .before .before .before .before .before .before .before .pre .1) .few,
-    )
+mul-value c = omega (arith, c .before .before .before .before .loop .inv (c .before .before .before .before .before .before .before .before .before .before .before .pre .1) .few)
 
--- src/lib.rt:81:30
 value-of-requires-2 : tie.Need-value-of-requires-2 Inv-loop μ-loop
-value-of-requires-2 c κs =
-    goes (c .before .before .before .before .loop .value)
-    (getD (c .before .before .before .before .before .before .before .before .before .before .before .args .text .now)
-    (c .before .before .before .before .loop .i) 0)
-    (passed (c .before .goes-on .ensures) (c .if3 .left)) .low
+value-of-requires-2 c κs = goes (c .before .before .before .before .loop .value) (getD (c .before .before .before .before .before .before .before .before .before .before .before .args .text .now) (c .before .before .before .before .loop .i) 0) (passed (c .before .goes-on .ensures) (c .if3 .left)) .low
 
--- src/lib.rt:81:17
 add-value : tie.Need-add-value Inv-loop μ-loop
 add-value c =
     let a = c .before .before .before .before .before .before .before .before .before .before .before .before .args in
     let l = c .before .before .before .before .before .loop in
     let small = c .before .before .before .before .before .before .before .before .before .before .before .before .pre .1 in
-    omega (
-      arith,
-      number-goes (a .least) small (a .text .now) (a .from .at) (l .value) (l .i) (l .inv small) (omega arith) (c .value-of2 .result)
-          (passed (c .before .before .goes-on .ensures) (c .before .if3 .left)) (c .value-of2 .ensures) .few,
-    )
+    let goes-on = passed (c .before .before .goes-on .ensures) (c .before .if3 .left) in
+    omega (arith, number-goes (a .least) small (a .text .now) (a .from .at) (l .value) (l .i) (l .inv small) (omega arith) (c .value-of2 .result) goes-on (c .value-of2 .ensures) .few)
 
--- src/lib.rt:82:9
 add-i-2 : tie.Need-add-i-2 Inv-loop μ-loop
 add-i-2 c = omega arith
 
--- src/lib.rt:73:5
 loop-less : tie.Need-loop-less Inv-loop μ-loop
 loop-less c = omega arith
 
--- src/lib.rt:73:5
 loop-again : tie.Need-loop-again Inv-loop μ-loop
 loop-again c =
     let a = c .before .before .before .before .before .before .before .before .before .before .before .before .args in
     let l = c .before .before .before .before .before .loop in
-    λ small.
-    number-goes (a .least) small (a .text .now) (a .from .at) (l .value) (l .i) (l .inv small) (omega arith) (c .value-of2 .result)
-    (passed (c .before .before .goes-on .ensures) (c .before .if3 .left)) (c .value-of2 .ensures)
+    let goes-on = passed (c .before .before .goes-on .ensures) (c .before .if3 .left) in
+    λ small. number-goes (a .least) small (a .text .now) (a .from .at) (l .value) (l .i) (l .inv small) (omega arith) (c .value-of2 .result) goes-on (c .value-of2 .ensures)
 
--- src/lib.rt:55:1
+number-to-requires-2 : tie.Need-number-to-requires-2 Inv-loop μ-loop
+number-to-requires-2 c κs = tt
+
 returns-4 : tie.Need-returns-4 Inv-loop μ-loop
 returns-4 c =
-    let a = c .before .before .before .before .before .before .before .before .args in
-    let l = c .before .loop in (
-      l .inv (c .before .before .before .before .before .before .before .before .pre .1) .few,
+    let a = c .before .before .before .before .before .before .before .before .before .args in
+    let l = c .before .before .loop in
+    let small₀ = c .before .before .before .before .before .before .before .before .before .pre .1 in
+    subst (Answered (a .least) (a .text .now) (a .from)) (sym (c .number-to2 .ensures)) (
+      l .inv small₀ .few,
       (
-        λ small.
-            reads-going (number (a .least) small) (a .text .now) (a .from .at) (a .from .stopped) (l .value) (l .i) false
-            (c .before .before .before .before .before .before .if1 .left)
+        λ small. found (number (a .least) small) (a .text .now) (a .from) (l .value) (c .before .before .before .before .before .before .before .if1 .left) (l .i) _ refl
             (number-ends (a .least) small (a .text .now) (a .from .at) (l .value) (l .i) (l .inv small) (omega arith)),
-        l .inv (c .before .before .before .before .before .before .before .before .pre .1) .to,
+        l .inv small₀ .to,
       ),
     )
 
@@ -169,6 +137,7 @@ number-spec =
     μ-loop
     returns
     is-first-at-requires
+    stop-requires
     returns-2
     shared-slice-read-value-of
     value-of-requires
@@ -176,6 +145,7 @@ number-spec =
     loop-holds
     shared-slice-read-b
     goes-on-requires
+    number-to-requires
     returns-3
     mul-value
     value-of-requires-2
@@ -183,4 +153,5 @@ number-spec =
     add-i-2
     loop-less
     loop-again
+    number-to-requires-2
     returns-4)

@@ -9,15 +9,12 @@ use borrow.Author.Needs.{needs}
 use Rattle.scanner.proofs.signed.Statement.{statement}
 use Rattle.scanner.proofs.signed.Tie as tie
 
--- src/lib.rt:95:8
 begins-requires : tie.Need-begins-requires
 begins-requires c κs = search needs
 
--- src/lib.rt:97:43
 add-t9 : tie.Need-add-t9
 add-t9 c = search needs
 
--- src/lib.rt:97:13
 number-requires : tie.Need-number-requires
 number-requires c κs =
     let a = c .before .before .before .args in (
@@ -25,11 +22,9 @@ number-requires c κs =
       omega arith,
     )
 
--- src/lib.rt:100:20
 minus-requires : tie.Need-minus-requires
 minus-requires c κs = search needs
 
--- src/lib.rt:99:9
 returns : tie.Need-returns
 returns c =
     let a = c .before .before .before .before .before .before .args in
@@ -42,15 +37,12 @@ returns c =
       c .before .before .number .ensures .1 .1,
     )
 
--- src/lib.rt:104:9
 number-requires-2 : tie.Need-number-requires-2
 number-requires-2 c κs = search needs
 
--- src/lib.rt:107:16
 plus-requires : tie.Need-plus-requires
 plus-requires c κs = search needs
 
--- src/lib.rt:91:1
 returns-2 : tie.Need-returns-2
 returns-2 c =
     let a = c .before .before .before .before .before .before .args in

@@ -3,15 +3,12 @@ use borrow.Author.Tests.{lt-ltb, le-ltb, le-leb, lt-leb}
 use Rattle.scanner.proofs.digits.goes_on.Statement.{statement}
 use Rattle.scanner.proofs.digits.goes_on.Tie as tie
 
--- src/digits.rt:27:9
 returns : tie.Need-returns
 returns c = rw (le-ltb 0 (c .before .args .v) (omega arith))
 
--- src/digits.rt:30:9
 returns-2 : tie.Need-returns-2
 returns-2 c = simp (le-ltb (c .before .before .args .v) 1000000000000 (c .if2 .taken), lt-ltb 0 (c .before .before .args .v) (omega arith))
 
--- src/digits.rt:33:9
 returns-3 : tie.Need-returns-3
 returns-3 c =
     simp (
@@ -20,7 +17,6 @@ returns-3 c =
       lt-leb 48 (c .before .before .before .args .b) (c .if3 .taken),
     )
 
--- src/digits.rt:23:1
 returns-4 : tie.Need-returns-4
 returns-4 c =
     simp (

@@ -5,25 +5,20 @@ use borrow.Author.Needs.{needs}
 use Rattle.scanner.proofs.digits.is_first_at.Statement.{statement}
 use Rattle.scanner.proofs.digits.is_first_at.Tie as tie
 
--- src/digits.rt:13:9
 returns : tie.Need-returns
 returns c = let a = c .before .args in rw (first-past (a .text .now) (a .at) (a .least) (c .if1 .taken))
 
--- src/digits.rt:15:13
 shared-slice-read-b : tie.Need-shared-slice-read-b
 shared-slice-read-b c = search needs
 
--- src/digits.rt:16:12
 add-if2 : tie.Need-add-if2
 add-if2 c = search needs
 
--- src/digits.rt:17:9
 returns-2 : tie.Need-returns-2
 returns-2 c =
     let a = c .before .before .before .args in
     rw (first-at (a .text .now) (a .at) (a .least) (c .before .before .if1 .left), lt-leb _ _ (c .if2 .taken))
 
--- src/digits.rt:8:1
 returns-3 : tie.Need-returns-3
 returns-3 c =
     let a = c .before .before .before .args in

@@ -3,11 +3,9 @@ use borrow.Author.Needs.{needs}
 use Rattle.scanner.proofs.signs.plus.Statement.{statement}
 use Rattle.scanner.proofs.signs.plus.Tie as tie
 
--- src/signs.rt:10:5
 cast-result : tie.Need-cast-result
 cast-result c = search needs
 
--- src/signs.rt:6:1
 returns : tie.Need-returns
 returns c = plus-is (c .args .n) (c .pre)
 

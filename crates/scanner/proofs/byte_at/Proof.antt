@@ -1,0 +1,19 @@
+use mathlib.Core.Path.{sym}
+use Rattle.scanner.proofs.Bytes.{starts-at, starts-past}
+use borrow.Author.Needs.{needs}
+use Rattle.scanner.proofs.byte_at.Statement.{statement}
+use Rattle.scanner.proofs.byte_at.Tie as tie
+use Rattle.scanner.proofs.byte_at.Reads as reads
+use Rattle.scanner.proofs.byte_at.Lts as lts
+
+returns : tie.Need-returns
+returns c = let a = c .before .args in sym (starts-past (a .b) (a .text .now) (a .at) (c .if1 .taken))
+
+shared-slice-read-result : tie.Need-shared-slice-read-result
+shared-slice-read-result c = search needs
+
+returns-2 : tie.Need-returns-2
+returns-2 c = let a = c .before .before .args in sym (starts-at (a .b) (a .text .now) (a .at) (c .before .if1 .left))
+
+pub byte-at-spec : {M : Type 1} → statement M
+byte-at-spec = tie.close (tie.spec returns shared-slice-read-result returns-2)
