@@ -1,4 +1,1 @@
-mod Collecting
-mod Kept
-mod Parts
-mod Answers
+pub mod Answers

@@ -2,11 +2,6 @@
 ghost use mathlib.Core.Path.{_≡_};
 ghost use Rattle.reader.specs.Reading.{readOf, refusedAnswer};
 
-// The parts of a text. The modules are private: what is pub in them serves this crate alone.
-mod bids;
-mod records;
-mod segments;
-
 use book::Book;
 use refusal::Rule;
 use refusal::Verdict;
@@ -22,18 +17,18 @@ fn refused(rule: Rule, place: u64) -> BookRead
 {
     BookRead {
         verdict: Verdict::Refused(rule, place),
-        book: records::empty_book(),
+        book: bookrecord::empty_book(),
     }
 }
 
-// Reads a book from any bytes: the whole text is held against the shape before any rule.
+// Reads a book from any bytes. The whole text is parsed before any rule is looked at.
 pub fn read(text: &[u8]) -> BookRead
     ensures { λ r. ⌜ r ≡ readOf (now (text .entry)) ⌝ }
 {
     if 4_096 < text.len() {
         return refused(Rule::TextLength, 4_096);
     }
-    let parsed = bids::book(text);
+    let parsed = booklines::book(text);
     let next = parsed.next;
     if next.stopped {
         return refused(Rule::Shape, next.at as u64);

@@ -1,0 +1,2 @@
+mod Collecting
+mod Parts

@@ -1,0 +1,108 @@
+use native.Mathlib.Omega.{arith}
+use mathlib.Core.Path.{sym, ap, _∙_}
+use Rattle.booktext.proofs.BookForm.{bid, bid-open}
+use Rattle.bookrecord.specs.Adding.{withBid}
+use Rattle.booklines.proofs.Collecting.{Collected, collected-first, collected-next, collected-done, left, left-falls}
+use Rattle.bookrecord.proofs.Kept.{bidsKept, bidCount, bid-kept, first-bid, one-bid}
+use Rattle.booklines.proofs.bids.Statement.{statement}
+use Rattle.booklines.proofs.bids.Tie as tie
+
+abbrev Inv-loop : tie.InvT-loop
+Inv-loop text demand book₀ next₀ book next =
+    Collected 40 bid bid-open tt (bidsKept demand) bidCount text book₀ (next₀ .at) (next₀ .stopped) book (next .at) (next .stopped)
+
+abbrev μ-loop : tie.MeasureT-loop
+μ-loop text demand book₀ next₀ book next = left 40 bid bid-open tt (bidsKept demand) bidCount text (next .at) (next .stopped)
+
+-- src/lib.rt:37:9
+bid-requires : tie.Need-bid-requires Inv-loop μ-loop
+bid-requires c κs = c .before .pre
+
+-- src/lib.rt:38:9
+empty-book-requires : tie.Need-empty-book-requires Inv-loop μ-loop
+empty-book-requires c κs = tt
+
+-- src/lib.rt:42:5
+with-bid-requires : tie.Need-with-bid-requires Inv-loop μ-loop
+with-bid-requires c κs = omega (arith, ap bidCount (c .before .empty-book .ensures))
+
+-- src/lib.rt:44:5
+loop-holds : tie.Need-loop-holds Inv-loop μ-loop
+loop-holds c =
+    let a = c .before .before .before .before .before .before .args in
+    let f = c .before .before .before .before .bid in
+    let r = c .before .with-bid in
+    let b = f .ensures .0 .0 in
+    collected-first 40 bid bid-open tt (bidsKept (a .demand)) bidCount (a .text .now) (r .result) (a .from .at) (a .from .stopped) b
+    (f .result .next .at) (f .result .next .stopped) (c .before .before .before .before .before .before .pre) (f .ensures .0 .2)
+    (one-bid (a .demand) (c .before .before .before .empty-book .result) (f .result .bid) b (r .result)
+    (c .before .before .before .empty-book .ensures) (f .ensures .0 .1) (r .ensures))
+
+-- src/lib.rt:44:11
+begins-requires : tie.Need-begins-requires Inv-loop μ-loop
+begins-requires c κs = tt
+
+-- src/lib.rt:45:13
+bid-requires-2 : tie.Need-bid-requires-2 Inv-loop μ-loop
+bid-requires-2 c κs = c .before .before .loop .inv .run .within
+
+-- src/lib.rt:47:9
+with-bid-requires-2 : tie.Need-with-bid-requires-2 Inv-loop μ-loop
+with-bid-requires-2 c κs = omega (arith, c .before .before .before .before .loop .inv .few, c .before .before .before .before .loop .inv .run .within)
+
+-- src/lib.rt:44:5
+loop-less : tie.Need-loop-less Inv-loop μ-loop
+loop-less c =
+    let a = c .before .before .before .before .before .before .before .before .before .before .before .before .before .args in
+    let l = c .before .before .before .before .before .before .loop in
+    let parsed = c .before .before .before .bid2 in
+    left-falls 40 bid bid-open tt (bidsKept (a .demand)) bidCount (a .text .now) (l .next .at) (l .next .stopped) (l .inv .run .within)
+    (sym (c .before .before .before .before .before .begins .ensures) ∙ c .before .before .before .before .if1 .taken)
+    (parsed .ensures .0 .0) (parsed .result .next .at) (parsed .result .next .stopped) (parsed .ensures .0 .2)
+
+-- src/lib.rt:44:5
+loop-again : tie.Need-loop-again Inv-loop μ-loop
+loop-again c =
+    let a = c .before .before .before .before .before .before .before .before .before .before .before .before .before .args in
+    let l = c .before .before .before .before .before .before .loop in
+    let r₀ = c .before .before .before .before .before .before .before .before .with-bid in
+    let f = c .before .before .before .before .before .before .before .before .before .before .before .bid in
+    let parsed = c .before .before .before .bid2 in
+    let b = parsed .ensures .0 .0 in
+    let r = c .before .with-bid2 in
+    collected-next 40 bid bid-open tt (bidsKept (a .demand)) bidCount (a .text .now) (r₀ .result) (f .result .next .at)
+    (f .result .next .stopped) (l .book) (l .next .at) (l .next .stopped) (l .inv)
+    (sym (c .before .before .before .before .before .begins .ensures) ∙ c .before .before .before .before .if1 .taken) b
+    (parsed .result .next .at) (parsed .result .next .stopped) (parsed .ensures .0 .2) (r .result)
+    (λ xs e. r .ensures ∙ ap (withBid (l .book)) (parsed .ensures .0 .1) ∙ bid-kept (a .demand) (l .book) b xs e) (ap bidCount (r .ensures))
+
+-- src/lib.rt:33:1
+returns : tie.Need-returns Inv-loop μ-loop
+returns c =
+    let a = c .before .before .before .before .before .before .before .before .before .args in
+    let l = c .before .before .loop in
+    let r₀ = c .before .before .before .before .with-bid in
+    let f = c .before .before .before .before .before .before .before .bid in
+    let b = f .ensures .0 .0 in
+    collected-done 40 bid bid-open tt (bidsKept (a .demand)) bidCount (a .text .now) (r₀ .result) (f .result .next .at)
+    (f .result .next .stopped) (l .book) (l .next .at) (l .next .stopped) (l .inv) (sym (c .before .begins .ensures) ∙ c .if1 .left)
+    (a .from .at) (a .from .stopped) b (f .ensures .0 .2)
+    (first-bid (a .demand) (c .before .before .before .before .before .before .empty-book .result) (f .result .bid) b (r₀ .result)
+    (c .before .before .before .before .before .before .empty-book .ensures) (f .ensures .0 .1) (r₀ .ensures))
+
+pub bids-spec : {M : Type 1} → statement M
+bids-spec =
+    tie.close
+    (tie.spec
+    Inv-loop
+    μ-loop
+    bid-requires
+    empty-book-requires
+    with-bid-requires
+    loop-holds
+    begins-requires
+    bid-requires-2
+    with-bid-requires-2
+    loop-less
+    loop-again
+    returns)

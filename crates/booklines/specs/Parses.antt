@@ -1,0 +1,25 @@
+-- For the contracts of the functions that parse a book: what was parsed are the entries whose record is given.
+use Prim.Native.Nat.{ℕ}
+use mathlib.Core.Bool.{false}
+use mathlib.Core.List.{List}
+use mathlib.Core.Path.{_≡_}
+use Rattle.book.specs.declared.Segment.{Segment}
+use Rattle.book.specs.declared.Bid.{Bid}
+use Rattle.book.specs.declared.Book.{Book}
+use Rattle.book.specs.Entries.{BidEntries, BookEntries}
+use Rattle.scanner.specs.declared.Cursor.{Cursor}
+use Rattle.scanner.specs.Scans.{Scans}
+use Rattle.booktext.specs.Record.{bidRecord, bookRecord}
+use Rattle.booktext.proofs.BookForm.{segments, bid, bids, book, bidOf, bookOf}
+
+abbrev pub ParsesSegments : List ℕ → Cursor → ℕ → Bid → Cursor → Type 0
+ParsesSegments t from bidder r next = (xs : List Segment) × (r ≡ bidRecord (bidOf bidder xs)) × Scans segments t from xs next
+
+abbrev pub ParsesBid : List ℕ → Cursor → Bid → Cursor → Type 0
+ParsesBid t from r next = (b : BidEntries) × (r ≡ bidRecord b) × Scans bid t from b next
+
+abbrev pub ParsesBids : List ℕ → Cursor → ℕ → Book → Cursor → Type 0
+ParsesBids t from demand r next = (xs : List BidEntries) × (r ≡ bookRecord (bookOf demand xs)) × Scans bids t from xs next
+
+abbrev pub ParsesBook : List ℕ → Book → Cursor → Type 0
+ParsesBook t r next = (b : BookEntries) × (r ≡ bookRecord b) × Scans book t (record { at = 0; stopped = false }) b next

@@ -1,0 +1,14 @@
+use borrow.Author.Needs.{needs}
+use Rattle.bookrecord.proofs.empty_book.Statement.{statement}
+use Rattle.bookrecord.proofs.empty_book.Tie as tie
+
+-- src/lib.rt:38:9
+empty-bid-requires : tie.Need-empty-bid-requires
+empty-bid-requires c κs = search needs
+
+-- src/lib.rt:35:1
+returns : tie.Need-returns
+returns c = rw (c .empty-bid .ensures)
+
+pub empty-book-spec : {M : Type 1} → statement M
+empty-book-spec = tie.close (tie.spec empty-bid-requires returns)

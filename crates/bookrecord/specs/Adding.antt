@@ -1,0 +1,18 @@
+-- For the contracts of the functions that fill a record: a record with an entry more, stored where there is room, and counted.
+use Prim.Native.Nat.{ℕ, _+_}
+use mathlib.Core.Bool.{cond}
+use mathlib.Core.List.{List}
+use lib.Dec.{ltb}
+use lib.ListN.{set}
+use Rattle.book.specs.declared.Segment.{Segment}
+use Rattle.book.specs.declared.Bid.{Bid}
+use Rattle.book.specs.declared.Book.{Book}
+
+abbrev pub added : {A : Type 0} → ℕ → List A → ℕ → A → List A
+added room xs count x = cond (ltb count room) (set xs count x) xs
+
+abbrev pub withSegment : Bid → Segment → Bid
+withSegment b s = record { bidder = b .bidder; count = b .count + 1; segments = added 6 (b .segments) (b .count) s }
+
+abbrev pub withBid : Book → Bid → Book
+withBid b bid = record { demand = b .demand; count = b .count + 1; bids = added 8 (b .bids) (b .count) bid }
