@@ -6,12 +6,12 @@ use mathlib.Core.List.{List, [], _∷_, _++_, append-assoc, append-nil}
 use mathlib.Core.Path.{_≡_, refl, sym, ap, _∙_}
 use lib.ListN.{length, drop}
 use Rattle.forms.proofs.Form.{Form, startsWith}
-use Rattle.forms.proofs.Many.{Headed}
-use Rattle.forms.proofs.Some.{some-of}
+use Rattle.forms.proofs.Many.{FirstByte}
+use Rattle.forms.proofs.Some.{one-or-more}
 use Rattle.forms.proofs.Place.{Reads, reads-within, reads-found}
 use Rattle.forms.proofs.Repeat.{Run, run-start, run-next, run-done, first-then, item-on, item-moves, moves}
 
-module _ {A R : Type 0} (x : ℕ) (p : Form A) (heads : Headed x p) (again : p .May x) (keep : List A → R) (count : R → ℕ) (t : List ℕ) where
+module _ {A R : Type 0} (x : ℕ) (p : Form A) (heads : FirstByte x p) (again : p .Follow x) (keep : List A → R) (count : R → ℕ) (t : List ℕ) where
   -- The record was r₀ where the loop began at i, and is r at the place e. Each item but one that was broken off took a byte.
   pub record Collected (r₀ : R) (i : ℕ) (before : Bool) (r : R) (e : ℕ) (stop : Bool) : Type 0 where
     pub items : List A
@@ -49,7 +49,7 @@ module _ {A R : Type 0} (x : ℕ) (p : Form A) (heads : Headed x p) (again : p .
     -- and none more: all items of the list
     pub collected-done : not stop && startsWith x (drop e t) ≡ false → (j : ℕ) (start : Bool) (a : A) → Reads p t j start a i before
         → r₀ ≡ keep (a ∷ [])
-        → (xs : List A) × (r ≡ keep xs) × Reads (some-of x p heads again) t j start xs e stop
+        → (xs : List A) × (r ≡ keep xs) × Reads (one-or-more x p heads again) t j start xs e stop
     collected-done test j start a item first = (
       a ∷ so-far .items,
       so-far .kept (a ∷ []) first,

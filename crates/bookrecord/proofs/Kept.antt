@@ -10,17 +10,17 @@ use Rattle.book.specs.declared.Segment.{Segment}
 use Rattle.book.specs.declared.Bid.{Bid}
 use Rattle.book.specs.declared.Book.{Book}
 use Rattle.book.specs.Entries.{BidEntries}
-use Rattle.booktext.specs.Record.{held, emptySegment, emptyBid, emptyBook, bidRecord, bookRecord}
+use Rattle.booktext.specs.Record.{padded, emptySegment, emptyBid, emptyBook, bidRecord, bookRecord}
 use Rattle.booktext.proofs.BookForm.{bidOf, bookOf}
-use Rattle.booktext.proofs.Records.{held-next, held-full}
+use Rattle.booktext.proofs.Records.{padded-next, padded-full}
 use Rattle.bookrecord.specs.Adding.{added, withSegment, withBid}
 
-added-held : {A : Type 0} (n : ℕ) (blank : A) (xs : List A) (x : A) → added n (held n blank xs) (length xs) x ≡ held n blank (xs ++ x ∷ [])
-added-held n blank xs x = go (ltb (length xs) n) refl
+added-padded : {A : Type 0} (n : ℕ) (zero-entry : A) (xs : List A) (x : A) → added n (padded n zero-entry xs) (length xs) x ≡ padded n zero-entry (xs ++ x ∷ [])
+added-padded n zero-entry xs x = go (ltb (length xs) n) refl
   where
-    go : (b : Bool) → ltb (length xs) n ≡ b → cond b (set (held n blank xs) (length xs) x) (held n blank xs) ≡ held n blank (xs ++ x ∷ [])
-    go true q = held-next n blank xs x (ltb-true (length xs) n q)
-    go false q = sym (held-full n blank xs x (ltb-false (length xs) n q))
+    go : (b : Bool) → ltb (length xs) n ≡ b → cond b (set (padded n zero-entry xs) (length xs) x) (padded n zero-entry xs) ≡ padded n zero-entry (xs ++ x ∷ [])
+    go true q = padded-next n zero-entry xs x (ltb-true (length xs) n q)
+    go false q = sym (padded-full n zero-entry xs x (ltb-false (length xs) n q))
 
 one-more : {A : Type 0} (xs : List A) (x : A) → length xs + 1 ≡ length (xs ++ x ∷ [])
 one-more xs x = sym (length-append xs (x ∷ []))
@@ -30,7 +30,7 @@ pub segment-kept : (bidder : ℕ) (r : Bid) (s : Segment) (xs : List Segment) �
 unfolding bidRecord
 segment-kept bidder r s xs e =
     ap (λ (b : Bid). withSegment b s) e
-    ∙ ap₂ (λ (n : ℕ) (ss : List Segment). record { bidder = bidder; count = n; segments = ss }) (one-more xs s) (added-held 6 emptySegment xs s)
+    ∙ ap₂ (λ (n : ℕ) (ss : List Segment). record { bidder = bidder; count = n; segments = ss }) (one-more xs s) (added-padded 6 emptySegment xs s)
 
 map-more : {A B : Type 0} (f : A → B) (xs : List A) (x : A) → map f xs ++ f x ∷ [] ≡ map f (xs ++ x ∷ [])
 map-more f [] x = refl
@@ -41,10 +41,10 @@ pub bid-kept : (demand : ℕ) (r : Book) (b : BidEntries) (xs : List BidEntries)
 unfolding bookRecord
 bid-kept demand r b xs e =
     let bids = map bidRecord xs in
-    let stored : added 8 (held 8 emptyBid bids) (length xs) (bidRecord b) ≡ held 8 emptyBid (map bidRecord (xs ++ b ∷ [])) =
-    ap (λ (n : ℕ). added 8 (held 8 emptyBid bids) n (bidRecord b)) (sym (length-map xs bidRecord))
-    ∙ added-held 8 emptyBid bids (bidRecord b)
-    ∙ ap (held 8 emptyBid) (map-more bidRecord xs b) in
+    let stored : added 8 (padded 8 emptyBid bids) (length xs) (bidRecord b) ≡ padded 8 emptyBid (map bidRecord (xs ++ b ∷ [])) =
+    ap (λ (n : ℕ). added 8 (padded 8 emptyBid bids) n (bidRecord b)) (sym (length-map xs bidRecord))
+    ∙ added-padded 8 emptyBid bids (bidRecord b)
+    ∙ ap (padded 8 emptyBid) (map-more bidRecord xs b) in
     ap (λ (k : Book). withBid k (bidRecord b)) e
     ∙ ap₂ (λ (n : ℕ) (bs : List Bid). record { demand = record { 0 = demand }; count = n; bids = bs }) (one-more xs b) stored
 

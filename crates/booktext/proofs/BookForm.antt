@@ -14,8 +14,8 @@ use Rattle.forms.proofs.Number.{number, NoDigit}
 use Rattle.forms.proofs.Signed.{signed, from-0}
 use Rattle.forms.proofs.Pair.{pair, Follows}
 use Rattle.forms.proofs.Via.{via, Same}
-use Rattle.forms.proofs.Many.{Headed}
-use Rattle.forms.proofs.Some.{some-of, some-headed}
+use Rattle.forms.proofs.Many.{FirstByte}
+use Rattle.forms.proofs.Some.{one-or-more, one-or-more-headed}
 use Rattle.forms.proofs.Whole.{reading}
 use Rattle.book.specs.declared.Segment.{Segment}
 use Rattle.book.specs.Entries.{BidEntries, BookEntries}
@@ -100,13 +100,13 @@ same-segment = record {
 abbrev pub segment : Form Segment
 segment = via segment-parts toSegment fromSegment WellFormedSegment segmentText same-segment
 
-pub segment-space : Headed 32 segment
+pub segment-space : FirstByte 32 segment
 unfolding segmentText
 segment-space s v = (_, refl)
 
 -- one or more segments
 abbrev pub segments : Form (List Segment)
-segments = some-of 32 segment segment-space tt
+segments = one-or-more 32 segment segment-space tt
 
 -- a bid's line
 pub segments-close : Follows segments (word (ascii ")\n"))
@@ -117,7 +117,7 @@ segments-line = pair segments (word (ascii ")\n")) segments-close
 
 pub number-segments : Follows plain segments-line
 number-segments b r v h =
-    let s = some-headed 32 segment segment-space tt (b .0) (v .0) in
+    let s = one-or-more-headed 32 segment segment-space tt (b .0) (v .0) in
     subst (λ (t : List ℕ). Next NoDigit ((t ++ ascii ")\n") ++ r)) (sym (s .1)) (λ l k. omega arith)
 
 abbrev pub bidder-segments : Form (ℕ × (List Segment × Unit {0}))
@@ -150,13 +150,13 @@ same-bid = record {
 abbrev pub bid : Form BidEntries
 bid = via bid-parts toBid fromBid WellFormedBid bidText same-bid
 
-pub bid-open : Headed 40 bid
+pub bid-open : FirstByte 40 bid
 unfolding bidText
 bid-open b v = (_, refl)
 
 -- one or more bids
 abbrev pub bids : Form (List BidEntries)
-bids = some-of 40 bid bid-open tt
+bids = one-or-more 40 bid bid-open tt
 
 -- the demand's line, and then the bids
 abbrev pub demand-bids : Form ((ℕ × Unit {0}) × List BidEntries)

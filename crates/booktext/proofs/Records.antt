@@ -14,50 +14,50 @@ use Rattle.book.specs.Rules.{bookVerdict}
 use Rattle.book.proofs.Accepted.{AcceptedBid, book-accepted}
 use Rattle.booktext.specs.Arrays.{SixSegments, Arrays}
 use Rattle.booktext.specs.WellFormed.{WellFormedBid, WellFormedBook}
-use Rattle.booktext.specs.Record.{held, emptySegment, emptyBid, bidRecord, bookRecord}
+use Rattle.booktext.specs.Record.{padded, emptySegment, emptyBid, bidRecord, bookRecord}
 use Rattle.booktext.proofs.Bids.{all-accepted}
 
 module _ {A : Type 0} where
-  take-replicate : (k m : ℕ) (blank : A) → take k (replicate (k + m) blank) ≡ replicate k blank
-  take-replicate k m blank = rw (← (replicate-append-replicate k m blank)) (take-at _ _ k (length-replicate k blank))
+  take-replicate : (k m : ℕ) (zero-entry : A) → take k (replicate (k + m) zero-entry) ≡ replicate k zero-entry
+  take-replicate k m zero-entry = rw (← (replicate-append-replicate k m zero-entry)) (take-at _ _ k (length-replicate k zero-entry))
 
   -- with k places left
-  held-room : (n k : ℕ) (blank : A) (xs : List A) → n ≡ length xs + k → held n blank xs ≡ xs ++ replicate k blank
-  held-room n k blank xs e =
+  padded-room : (n k : ℕ) (zero-entry : A) (xs : List A) → n ≡ length xs + k → padded n zero-entry xs ≡ xs ++ replicate k zero-entry
+  padded-room n k zero-entry xs e =
       let f : n ≡ k + length xs = omega arith in
-      ap (λ (m : ℕ). take m (xs ++ replicate n blank)) e
-      ∙ take-append-add xs (replicate n blank) k
-      ∙ ap (λ (r : List A). xs ++ r) (rw f (take-replicate k (length xs) blank))
+      ap (λ (m : ℕ). take m (xs ++ replicate n zero-entry)) e
+      ∙ take-append-add xs (replicate n zero-entry) k
+      ∙ ap (λ (r : List A). xs ++ r) (rw f (take-replicate k (length xs) zero-entry))
 
   -- always n
-  pub length-held-is : (n : ℕ) (blank : A) (xs : List A) → length (held n blank xs) ≡ n
-  length-held-is n blank xs = length-take-le n (xs ++ replicate n blank) (simp (length-append, length-replicate) (omega arith))
+  pub length-padded : (n : ℕ) (zero-entry : A) (xs : List A) → length (padded n zero-entry xs) ≡ n
+  length-padded n zero-entry xs = length-take-le n (xs ++ replicate n zero-entry) (simp (length-append, length-replicate) (omega arith))
 
-  -- one more entry: stored in the first blank, or nowhere where the record is full
-  pub held-next : (n : ℕ) (blank : A) (xs : List A) (x : A) → length xs < n → set (held n blank xs) (length xs) x ≡ held n blank (xs ++ x ∷ [])
-  held-next n blank xs x h =
+  -- one more entry: stored in the first zero-entry, or nowhere where the record is full
+  pub padded-next : (n : ℕ) (zero-entry : A) (xs : List A) (x : A) → length xs < n → set (padded n zero-entry xs) (length xs) x ≡ padded n zero-entry (xs ++ x ∷ [])
+  padded-next n zero-entry xs x h =
       let k = n - suc (length xs) in
       let here : n ≡ length xs + suc k = omega arith in
       let next : n ≡ length (xs ++ x ∷ []) + k = rw length-append (omega arith) in
-      ap (λ (l : List A). set l (length xs) x) (held-room n (suc k) blank xs here)
-      ∙ set-append-seam xs blank (replicate k blank) x
-      ∙ sym (append-snoc xs x (replicate k blank))
-      ∙ sym (held-room n k blank (xs ++ x ∷ []) next)
+      ap (λ (l : List A). set l (length xs) x) (padded-room n (suc k) zero-entry xs here)
+      ∙ set-append-seam xs zero-entry (replicate k zero-entry) x
+      ∙ sym (append-snoc xs x (replicate k zero-entry))
+      ∙ sym (padded-room n k zero-entry (xs ++ x ∷ []) next)
 
-  pub held-full : (n : ℕ) (blank : A) (xs : List A) (x : A) → n ≤ length xs → held n blank (xs ++ x ∷ []) ≡ held n blank xs
-  held-full n blank xs x h =
+  pub padded-full : (n : ℕ) (zero-entry : A) (xs : List A) (x : A) → n ≤ length xs → padded n zero-entry (xs ++ x ∷ []) ≡ padded n zero-entry xs
+  padded-full n zero-entry xs x h =
       let more : n ≤ length (xs ++ x ∷ []) = rw length-append (omega arith) in
-      take-append-le n (xs ++ x ∷ []) (replicate n blank) more ∙ take-append-le n xs (x ∷ []) h ∙ sym (take-append-le n xs (replicate n blank) h)
+      take-append-le n (xs ++ x ∷ []) (replicate n zero-entry) more ∙ take-append-le n xs (x ∷ []) h ∙ sym (take-append-le n xs (replicate n zero-entry) h)
 
-  pub held-none : (n : ℕ) (blank : A) → held n blank [] ≡ replicate n blank
-  held-none n blank = take-all n (replicate n blank) (omega (arith, length-replicate n blank))
+  pub padded-none : (n : ℕ) (zero-entry : A) → padded n zero-entry [] ≡ replicate n zero-entry
+  padded-none n zero-entry = take-all n (replicate n zero-entry) (omega (arith, length-replicate n zero-entry))
 
   -- within the count, the entries themselves
-  pub take-of-held : (n : ℕ) (blank : A) (xs : List A) → length xs ≤ n → take (length xs) (held n blank xs) ≡ xs
-  take-of-held n blank xs h = take-take (length xs) n (xs ++ replicate n blank) h ∙ take-append-seam xs (replicate n blank)
+  pub take-padded : (n : ℕ) (zero-entry : A) (xs : List A) → length xs ≤ n → take (length xs) (padded n zero-entry xs) ≡ xs
+  take-padded n zero-entry xs h = take-take (length xs) n (xs ++ replicate n zero-entry) h ∙ take-append-seam xs (replicate n zero-entry)
 
-  take-count : (n count : ℕ) (blank : A) (xs : List A) → count ≡ length xs → count ≤ n → take count (held n blank xs) ≡ xs
-  take-count n count blank xs e h = rw e (take-of-held n blank xs (omega arith))
+  take-count : (n count : ℕ) (zero-entry : A) (xs : List A) → count ≡ length xs → count ≤ n → take count (padded n zero-entry xs) ≡ xs
+  take-count n count zero-entry xs e h = rw e (take-padded n zero-entry xs (omega arith))
 
 -- a bid for which a record has room
 abbrev pub FewSegments : BidEntries → Type 0
@@ -100,9 +100,9 @@ pub record-arrays : (b : BookEntries) → Arrays (bookRecord b)
 unfolding bidRecord bookRecord
 record-arrays b =
     let bids = map bidRecord (b .bids) in
-    let six = all-map bidRecord SixSegments (b .bids) (all-any _ (λ x. length-held-is 6 emptySegment (x .segments)) (b .bids)) in
+    let six = all-map bidRecord SixSegments (b .bids) (all-any _ (λ x. length-padded 6 emptySegment (x .segments)) (b .bids)) in
     record {
-      bids = length-held-is 8 emptyBid bids;
+      bids = length-padded 8 emptyBid bids;
       segments =
           all-take SixSegments 8 (bids ++ replicate 8 emptyBid)
           (all-append SixSegments bids (replicate 8 emptyBid) six (all-same SixSegments 8 emptyBid refl));

@@ -9,9 +9,9 @@ use Rattle.book.specs.declared.Bid.{Bid}
 use Rattle.book.specs.declared.Book.{Book}
 use Rattle.book.specs.Entries.{BidEntries, BookEntries}
 
--- the first n of xs, with blanks for those that are missing
-abbrev pub held : {A : Type 0} → ℕ → A → List A → List A
-held n blank xs = take n (xs ++ replicate n blank)
+-- the first n of xs, with a zero entry for each that is missing
+abbrev pub padded : {A : Type 0} → ℕ → A → List A → List A
+padded n zero-entry xs = take n (xs ++ replicate n zero-entry)
 
 -- all zeros
 abbrev pub emptySegment : Segment
@@ -24,7 +24,7 @@ abbrev pub emptyBook : Book
 emptyBook = record { demand = record { 0 = 0 }; count = 0; bids = replicate 8 emptyBid }
 
 unfoldable pub bidRecord : BidEntries → Bid
-bidRecord b = record { bidder = b .bidder; count = b .count; segments = held 6 emptySegment (b .segments) }
+bidRecord b = record { bidder = b .bidder; count = b .count; segments = padded 6 emptySegment (b .segments) }
 
 unfoldable pub bookRecord : BookEntries → Book
-bookRecord b = record { demand = record { 0 = b .demand }; count = b .count; bids = held 8 emptyBid (map bidRecord (b .bids)) }
+bookRecord b = record { demand = record { 0 = b .demand }; count = b .count; bids = padded 8 emptyBid (map bidRecord (b .bids)) }

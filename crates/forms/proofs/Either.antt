@@ -36,13 +36,13 @@ module _ {A B : Type 0} (x : ℕ) (p : Form A) (q : Form B) where
   either-valid (inr b) = q .Valid b
 
   abbrev pub either-may : ℕ → Type 0
-  either-may b = p .May b × q .May b
+  either-may b = p .Follow b × q .Follow b
 
-  left-may : (r : List ℕ) → Next either-may r → Next (p .May) r
+  left-may : (r : List ℕ) → Next either-may r → Next (p .Follow) r
   left-may [] h = tt
   left-may (b ∷ r) h = h .0
 
-  right-may : (r : List ℕ) → Next either-may r → Next (q .May) r
+  right-may : (r : List ℕ) → Next either-may r → Next (q .Follow) r
   right-may [] h = tt
   right-may (b ∷ r) h = h .1
 
@@ -149,7 +149,7 @@ module _ {A B : Type 0} (x : ℕ) (p : Form A) (q : Form B) where
     either = record {
       Valid = either-valid;
       text = either-text;
-      May = either-may;
+      Follow = either-may;
       parse = either-parse;
       some = inr (q .some);
       some-valid = q .some-valid;

@@ -12,8 +12,8 @@ use Rattle.forms.proofs.Parse.{Parse, parsed, stopped}
 
 -- The text r is at its end, or its first byte may stand there.
 abbrev pub Next : (ℕ → Type 0) → List ℕ → Type 0
-Next May [] = Unit {0}
-Next May (b ∷ r) = May b
+Next Follow [] = Unit {0}
+Next Follow (b ∷ r) = Follow b
 
 abbrev pub startsWith : ℕ → List ℕ → Bool
 startsWith x [] = false
@@ -22,12 +22,12 @@ startsWith x (b ∷ r) = eqb b x
 pub record Form (A : Type 0) : Type 1 where
   pub Valid : A → Type 0
   pub text : A → List ℕ
-  pub May : ℕ → Type 0  -- the bytes that may stand after a text of the form
+  pub Follow : ℕ → Type 0  -- the bytes that may stand after a text of the form
   pub parse : List ℕ → Parse A
   pub some : A
   pub some-valid : Valid some
   -- the text of a value is parsed as this value
-  pub complete : (a : A) (r : List ℕ) → Valid a → Next May r → parse (text a ++ r) ≡ parsed a r
+  pub complete : (a : A) (r : List ℕ) → Valid a → Next Follow r → parse (text a ++ r) ≡ parsed a r
   -- what is parsed is the text of the value found
   pub sound : (t : List ℕ) (a : A) (r : List ℕ) → parse t ≡ parsed a r → Valid a × (t ≡ text a ++ r)
   -- of what follows, one byte is looked at
@@ -57,10 +57,10 @@ first-kept [] v m h = absurd (omega arith)
 first-kept (b ∷ s) v m h = refl
 
 -- what may stand next is said of the next byte alone
-pub next-same : (May : ℕ → Type 0) (r s : List ℕ) → take 1 s ≡ take 1 r → Next May r → Next May s
-next-same May r [] e h = tt
-next-same May [] (c ∷ s) e h = absurd (omega (arith, ap length e))
-next-same May (b ∷ r) (c ∷ s) e h = let z : b ≡ c = cc in subst May z h
+pub next-same : (Follow : ℕ → Type 0) (r s : List ℕ) → take 1 s ≡ take 1 r → Next Follow r → Next Follow s
+next-same Follow r [] e h = tt
+next-same Follow [] (c ∷ s) e h = absurd (omega (arith, ap length e))
+next-same Follow (b ∷ r) (c ∷ s) e h = let z : b ≡ c = cc in subst Follow z h
 
 -- a beginning that goes past the first part of a text
 module _ (t u r : List ℕ) (whole : t ≡ u ++ r) where

@@ -1,4 +1,4 @@
--- Any number of items, one after the other, each of which begins with the byte x, xs nothing after the last one does. Assumes nothing.
+-- Any number of items, one after the other, each of which begins with the byte x, as nothing after the last one does. Assumes nothing.
 use Prim.Native.Nat.{ℕ, zero, suc, _+_, _≤_, _<_}
 use native.Mathlib.Omega.{arith}
 use mathlib.Core.Bool.{Bool, true, false, cond}
@@ -14,8 +14,8 @@ use Rattle.forms.proofs.Parse.{Parse, parsed, stopped, not-both, same-p
 use Rattle.forms.proofs.Form.{Form, Next, first-joined, first-kept, begins-past, begins-past-then, length-past}
 
 -- every text of p begins with x
-abbrev pub Headed : {A : Type 0} → ℕ → Form A → Type 0
-Headed {A} x p = (a : A) → p .Valid a → (u : List ℕ) × (p .text a ≡ x ∷ u)
+abbrev pub FirstByte : {A : Type 0} → ℕ → Form A → Type 0
+FirstByte {A} x p = (a : A) → p .Valid a → (u : List ℕ) × (p .text a ≡ x ∷ u)
 
 module _ {A : Type 0} (x : ℕ) (p : Form A) where
   abbrev pub then-more : (List ℕ → Parse (List A)) → Parse A → Parse (List A)
@@ -34,8 +34,8 @@ module _ {A : Type 0} (x : ℕ) (p : Form A) where
   abbrev pub Valid : List A → Type 0
   Valid = All (p .Valid)
 
-  abbrev pub May : ℕ → Type 0
-  May b = p .May b × (b ≡ x → ⊥)
+  abbrev pub Follow : ℕ → Type 0
+  Follow b = p .Follow b × (b ≡ x → ⊥)
 
   -- nothing more
   pub none-left : (k : ℕ) → many-within k [] ≡ parsed [] []
@@ -53,7 +53,7 @@ module _ {A : Type 0} (x : ℕ) (p : Form A) where
   unfolding many-within
   an-item k b t e = rw (eq-eqb b x e)
 
-  module _ (heads : Headed x p) where
+  module _ (heads : FirstByte x p) where
     pub longer : (a : A) → p .Valid a → (r : List ℕ) → length r < length (p .text a ++ r)
     longer a v r = omega (arith, length-append (p .text a) r, ap length (heads a v .1))
 
@@ -69,13 +69,13 @@ module _ {A : Type 0} (x : ℕ) (p : Form A) where
         ∙ ap (after (length (p .text a)) (λ xs. a ∷ xs)) f
 
     -- a text of the items, where each is parsed and the parser ends after the last
-    pub first-may : (xs : List A) (r : List ℕ) → Valid xs → p .May x → Next May r → Next (p .May) (text xs ++ r)
+    pub first-may : (xs : List A) (r : List ℕ) → Valid xs → p .Follow x → Next Follow r → Next (p .Follow) (text xs ++ r)
     first-may [] [] v m h = tt
     first-may [] (b ∷ r) v m h = h .0
     first-may (a ∷ xs) r v m h =
-        subst (λ (s : List ℕ). Next (p .May) ((s ++ text xs) ++ r)) (sym (heads a (v .0) .1)) m
+        subst (λ (s : List ℕ). Next (p .Follow) ((s ++ text xs) ++ r)) (sym (heads a (v .0) .1)) m
 
-    pub complete : (xs : List A) (r : List ℕ) (k : ℕ) → Valid xs → p .May x → Next May r → length (text xs ++ r) ≤ k → many-within k (text xs ++ r) ≡ parsed xs r
+    pub complete : (xs : List A) (r : List ℕ) (k : ℕ) → Valid xs → p .Follow x → Next Follow r → length (text xs ++ r) ≤ k → many-within k (text xs ++ r) ≡ parsed xs r
     complete [] [] k v m h l = none-left k
     complete [] (b ∷ r) k v m h l = no-item k b r (h .1)
     complete (a ∷ xs) r zero v m h l =
@@ -240,12 +240,12 @@ module _ {A : Type 0} (x : ℕ) (p : Form A) where
             let z = same-place (sym (with-item k b t (stopped o) q i) ∙ e) in
             with-item m b (take n t ++ s) (stopped n) q (p .stable (b ∷ t) n s (i ∙ ap (λ (y : ℕ). stopped y) (sym z)) f)
 
-    module _ (again : p .May x) where
+    module _ (again : p .Follow x) where
       abbrev pub many : Form (List A)
       many = record {
         Valid = Valid;
         text = text;
-        May = May;
+        Follow = Follow;
         parse = λ t. many-within (length t) t;
         some = [];
         some-valid = tt;

@@ -215,7 +215,7 @@ module _ (least : ℕ) (small : least ≤ 1) where
   number = record {
     Valid = Number least;
     text = digits;
-    May = NoDigit;
+    Follow = NoDigit;
     parse = number-parse least;
     some = least;
     some-valid = least-number;

@@ -10,7 +10,7 @@ use Rattle.forms.proofs.Form.{Form, Next, first-joined, first-kept, beg
 
 -- the texts of q, and what may stand after them, may stand after a text of p
 abbrev pub Follows : {A B : Type 0} → Form A → Form B → Type 0
-Follows {B = B} p q = (b : B) (r : List ℕ) → q .Valid b → Next (q .May) r → Next (p .May) (q .text b ++ r)
+Follows {B = B} p q = (b : B) (r : List ℕ) → q .Valid b → Next (q .Follow) r → Next (p .Follow) (q .text b ++ r)
 
 module _ {A B : Type 0} (p : Form A) (q : Form B) where
   abbrev pub then-parse : Parse A → Parse (A × B)
@@ -42,7 +42,7 @@ module _ {A B : Type 0} (p : Form A) (q : Form B) where
       go (stopped n) i f = absurd (not-both (sym f))
 
   module _ (follows : Follows p q) where
-    pub complete : (x : A × B) (r : List ℕ) → Valid x → Next (q .May) r → then-parse (p .parse (text x ++ r)) ≡ parsed x r
+    pub complete : (x : A × B) (r : List ℕ) → Valid x → Next (q .Follow) r → then-parse (p .parse (text x ++ r)) ≡ parsed x r
     complete x r v h =
         ap (λ (t : List ℕ). then-parse (p .parse t)) (append-assoc (p .text (x .0)) (q .text (x .1)) r)
         ∙ past-first (x .0) (q .text (x .1) ++ r) (parsed (x .1) r)
@@ -113,7 +113,7 @@ module _ {A B : Type 0} (p : Form A) (q : Form B) where
   pair follows = record {
     Valid = Valid;
     text = text;
-    May = q .May;
+    Follow = q .Follow;
     parse = λ t. then-parse (p .parse t);
     some = (p .some, q .some);
     some-valid = (p .some-valid, q .some-valid);

@@ -10,16 +10,16 @@ use Rattle.lists.specs.Joined.{joined}
 use Rattle.lists.proofs.Tests.{both-left, both-right, not-is}
 use Rattle.forms.proofs.Parse.{Parse, parsed, stopped, after}
 use Rattle.forms.proofs.Form.{Form, startsWith}
-use Rattle.forms.proofs.Many.{Headed, many, many-within, then-more, none-left, no-item, with-item, enough}
-use Rattle.forms.proofs.Some.{some-of, first-and-more, item-follows, listed, split, same-items, OneOrMore}
+use Rattle.forms.proofs.Many.{FirstByte, many, many-within, then-more, none-left, no-item, with-item, enough}
+use Rattle.forms.proofs.Some.{one-or-more, first-and-more, item-follows, listed, split, same-items, OneOrMore}
 use Rattle.forms.proofs.Place.{Found, Stops, Gives, Reads, wide, valid, reads-both, reads-via, reads-within, reads-from, reads-found, reads-still}
 
-module _ {A : Type 0} (x : ℕ) (p : Form A) (heads : Headed x p) (again : p .May x) (t : List ℕ) where
+module _ {A : Type 0} (x : ℕ) (p : Form A) (heads : FirstByte x p) (again : p .Follow x) (t : List ℕ) where
   abbrev M : Form (List A)
   M = many x p heads again
 
   abbrev S : Form (List A)
-  S = some-of x p heads again
+  S = one-or-more x p heads again
 
   -- an item takes at least a byte
   pub moves : {i e : ℕ} {a : A} → Found p t i a e → i < e

@@ -32,18 +32,18 @@ abbrev pub sides : ℤ → ℕ ⊎ ℕ
 sides (pos n) = inr n
 sides (negsuc n) = inl (suc n)
 
-abbrev pub ThirteenDigits : ℤ → Type 0
-ThirteenDigits z = natAbs z < 10000000000000
+abbrev pub Integer : ℤ → Type 0
+Integer z = natAbs z < 10000000000000
 
-to-valid : (z : ℤ) → ThirteenDigits z → minus-or-none .Valid (sides z)
+to-valid : (z : ℤ) → Integer z → minus-or-none .Valid (sides z)
 to-valid (pos n) v = (omega arith, v)
 to-valid (negsuc n) v = (omega arith, v)
 
-back : (z : ℤ) → ThirteenDigits z → integer (sides z) ≡ z
+back : (z : ℤ) → Integer z → integer (sides z) ≡ z
 back (pos n) v = refl
 back (negsuc n) v = refl
 
-from-valid : (y : ℕ ⊎ ℕ) → minus-or-none .Valid y → ThirteenDigits (integer y)
+from-valid : (y : ℕ ⊎ ℕ) → minus-or-none .Valid y → Integer (integer y)
 from-valid (inl zero) v = absurd (omega (arith, v .0))
 from-valid (inl (suc n)) v = v .1
 from-valid (inr n) v = v .1
@@ -54,8 +54,8 @@ same-text (inl zero) v = absurd (omega (arith, v .0))
 same-text (inl (suc n)) v = refl
 same-text (inr n) v = refl
 
-pub same-integers : Same minus-or-none integer sides ThirteenDigits signedDigits
+pub same-integers : Same minus-or-none integer sides Integer signedDigits
 same-integers = record { to-valid = to-valid; back = back; from-valid = from-valid; same-text = same-text }
 
 abbrev pub signed : Form ℤ
-signed = via minus-or-none integer sides ThirteenDigits signedDigits same-integers
+signed = via minus-or-none integer sides Integer signedDigits same-integers

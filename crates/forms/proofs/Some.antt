@@ -9,9 +9,9 @@ use Rattle.lists.specs.Joined.{joined}
 use Rattle.forms.proofs.Form.{Form}
 use Rattle.forms.proofs.Pair.{pair, Follows}
 use Rattle.forms.proofs.Via.{via, Same}
-use Rattle.forms.proofs.Many.{Headed, many, first-may}
+use Rattle.forms.proofs.Many.{FirstByte, many, first-may}
 
-module _ {A : Type 0} (x : ℕ) (p : Form A) (heads : Headed x p) (again : p .May x) where
+module _ {A : Type 0} (x : ℕ) (p : Form A) (heads : FirstByte x p) (again : p .Follow x) where
   abbrev pub OneOrMore : List A → Type 0
   OneOrMore xs = (1 ≤ length xs) × All (p .Valid) xs
 
@@ -39,10 +39,10 @@ module _ {A : Type 0} (x : ℕ) (p : Form A) (heads : Headed x p) (again : p .Ma
   pub same-items : Same first-and-more listed split OneOrMore (joined (p .text))
   same-items = record { to-valid = split-valid; back = split-back; from-valid = λ y v. (omega arith, v); same-text = λ y v. refl }
 
-  abbrev pub some-of : Form (List A)
-  some-of = via first-and-more listed split OneOrMore (joined (p .text)) same-items
+  abbrev pub one-or-more : Form (List A)
+  one-or-more = via first-and-more listed split OneOrMore (joined (p .text)) same-items
 
   -- the first item begins the text
-  pub some-headed : Headed x some-of
-  some-headed [] v = absurd (omega (arith, v .0))
-  some-headed (a ∷ xs) v = let h = heads a (v .1 .0) in (h .0 ++ joined (p .text) xs, ap (λ (s : List ℕ). s ++ joined (p .text) xs) (h .1))
+  pub one-or-more-headed : FirstByte x one-or-more
+  one-or-more-headed [] v = absurd (omega (arith, v .0))
+  one-or-more-headed (a ∷ xs) v = let h = heads a (v .1 .0) in (h .0 ++ joined (p .text) xs, ap (λ (s : List ℕ). s ++ joined (p .text) xs) (h .1))

@@ -22,7 +22,7 @@ module _ {A B : Type 0} (p : Form A) (f : A → B) (g : B → A) (Valid : B → 
   via-text : (b : B) → Valid b → text b ≡ p .text (g b)
   via-text b v = ap text (sym (same .back b v)) ∙ same .same-text (g b) (same .to-valid b v)
 
-  pub via-complete : (b : B) (r : List ℕ) → Valid b → Next (p .May) r → via-parse (text b ++ r) ≡ parsed b r
+  pub via-complete : (b : B) (r : List ℕ) → Valid b → Next (p .Follow) r → via-parse (text b ++ r) ≡ parsed b r
   via-complete b r v h =
       ap (λ (s : List ℕ). via-parse (s ++ r)) (via-text b v)
       ∙ ap (after 0 f) (p .complete (g b) r (same .to-valid b v) h)
@@ -66,7 +66,7 @@ module _ {A B : Type 0} (p : Form A) (f : A → B) (g : B → A) (Valid : B → 
   via = record {
     Valid = Valid;
     text = text;
-    May = p .May;
+    Follow = p .Follow;
     parse = via-parse;
     some = f (p .some);
     some-valid = same .from-valid (p .some) (p .some-valid);

@@ -94,12 +94,16 @@ module _ {A : Type 0} (p : Form A) where
       go (parsed a (c ∷ r)) e = not-of-shape (length (p .text a)) (ended-none t a c r e) (ended-longest t a c r e)
       go (stopped n) e = not-of-shape n (stopped-none t n e) (stopped-longest t n e)
 
-  -- and any two give the same answer
+  -- a text is the text of one value
+  pub one-meaning : (t : List ℕ) (a b : A) → TextOf (p .Valid) (p .text) t a → TextOf (p .Valid) (p .text) t b → a ≡ b
+  one-meaning t a b x y =
+      same-value (sym (text-parsed a (x .well-formed)) ∙ ap (p .parse) (sym (x .is) ∙ y .is) ∙ text-parsed b (y .well-formed))
+
+  -- and any two readings give the same answer
   module _ {C : Type 0} (f : A → C) (g : ℕ → C) (t : List ℕ) where
     pub answer-whole : (a : A) → TextOf (p .Valid) (p .text) t a → (x : Whole t) → answer (p .Valid) (p .text) f g x ≡ f a
     unfolding answer
-    answer-whole a it (of-shape b is) =
-        ap f (same-value (sym (text-parsed b (is .well-formed)) ∙ ap (p .parse) (sym (is .is) ∙ it .is) ∙ text-parsed a (it .well-formed)))
+    answer-whole a it (of-shape b is) = ap f (one-meaning t b a is it)
     answer-whole a it (not-of-shape n none is) = absurd (none a it)
 
     pub answer-stopped : (n : ℕ) → ((a : A) → TextOf (p .Valid) (p .text) t a → ⊥) → Longest (p .Valid) (p .text) t n → (x : Whole t)

@@ -75,7 +75,7 @@ abbrev pub word : List ℕ → Form (Unit {0})
 word w = record {
   Valid = λ _. Unit {0};
   text = λ _. w;
-  May = λ _. Unit {0};
+  Follow = λ _. Unit {0};
   parse = word-parse w;
   some = tt;
   some-valid = tt;

@@ -1,7 +1,6 @@
 // Reading a bid book from its text.
 ghost use mathlib.Core.Path.{_≡_};
 ghost use Rattle.reader.specs.Reading.{readOf, refusedAnswer};
-
 use book::Book;
 use refusal::Rule;
 use refusal::Verdict;

@@ -25,8 +25,9 @@ use Rattle.booktext.proofs.Room.{room-bounds, text-short}
 use Rattle.printer.specs.Written.{written}
 use Rattle.reader.specs.declared.BookRead.{BookRead}
 use Rattle.reader.specs.Reading.{readOf}
+use Rattle.reader.proofs.Answers.{read-text, accepted-answer}
 use Rattle.writer.specs.Writing.{textOf, writeVerdict, writeOf, outputOf}
-use Rattle.roundtrip.proofs.Reading.{ReadAs, accepted-as, text-read, answer-accepted}
+use Rattle.roundtrip.proofs.Reading.{ReadAs, accepted-as}
 
 -- a record whose book is accepted
 module _ (b : Book) (arrays : Arrays b) (accepted : bookVerdict (bookEntries b) ≡ Accepted) where
@@ -35,8 +36,8 @@ module _ (b : Book) (arrays : Arrays b) (accepted : bookVerdict (bookEntries b) 
       let e = bookEntries b in
       let it = well-formed b arrays accepted in
       let short : length (textOf b) ≤ 4096 = omega (arith, text-short e it accepted) in
-      text-read (textOf b) e short (record { well-formed = it; is = refl })
-      ∙ answer-accepted e (ap bookVerdict (same-record b arrays accepted) ∙ accepted)
+      sym (read-text (textOf b) short e (record { well-formed = it; is = refl }))
+      ∙ accepted-answer e (ap bookVerdict (same-record b arrays accepted) ∙ accepted)
 
   -- the text of an accepted record is accepted, and is read as the same book
   pub reads-back : (readOf (textOf b) .verdict ≡ Accepted) × SameBook (readOf (textOf b) .book) b

@@ -160,8 +160,8 @@ pub fn field(text: &[u8], from: Cursor, w: &[u8]) -> ParsedNumber
 pub fn begins(text: &[u8], from: Cursor, b: u8) -> bool
     ensures { λ r. ⌜ r ≡ (not (from .stopped) && startsWith b (drop (from .at) (now (text .entry)))) ⌝ }
 {
-    if from.stopped {
-        return false;
+    if !from.stopped {
+        return byte_at(text, from.at, b);
     }
-    byte_at(text, from.at, b)
+    false
 }

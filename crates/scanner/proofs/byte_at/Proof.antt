@@ -3,8 +3,6 @@ use Rattle.scanner.proofs.Bytes.{starts-at, starts-past}
 use borrow.Author.Needs.{needs}
 use Rattle.scanner.proofs.byte_at.Statement.{statement}
 use Rattle.scanner.proofs.byte_at.Tie as tie
-use Rattle.scanner.proofs.byte_at.Reads as reads
-use Rattle.scanner.proofs.byte_at.Lts as lts
 
 returns : tie.Need-returns
 returns c = let a = c .before .args in sym (starts-past (a .b) (a .text .now) (a .at) (c .if1 .taken))

@@ -2,10 +2,6 @@ use Rattle.forms.proofs.Signed.{from-0}
 use borrow.Author.Needs.{needs}
 use Rattle.scanner.proofs.field.Statement.{statement}
 use Rattle.scanner.proofs.field.Tie as tie
-use Rattle.scanner.proofs.field.Reads as reads
-use Rattle.scanner.proofs.field.Lts as lts
-use Rattle.scanner.proofs.number.Reads as number-reads
-use Rattle.scanner.proofs.word.Reads as word-reads
 
 number-requires : tie.Need-number-requires
 number-requires c κs = search needs

@@ -9,13 +9,6 @@ use Rattle.scanner.proofs.Steps.{still, found, halted}
 use Rattle.scanner.proofs.Numbers.{Answered, Digits, first-within, first-digit, number-none, number-first, number-ends, number-stops, number-goes}
 use Rattle.scanner.proofs.number.Statement.{statement}
 use Rattle.scanner.proofs.number.Tie as tie
-use Rattle.scanner.proofs.number.Reads as reads
-use Rattle.scanner.proofs.number.Lts as lts
-use Rattle.scanner.proofs.digits.goes_on.Reads as goes-on-reads
-use Rattle.scanner.proofs.digits.is_first_at.Reads as is-first-at-reads
-use Rattle.scanner.proofs.digits.value_of.Reads as value-of-reads
-use Rattle.scanner.proofs.number_to.Reads as number-to-reads
-use Rattle.scanner.proofs.stop.Reads as stop-reads
 
 abbrev Inv-loop : tie.InvT-loop
 Inv-loop text least at value₀ i₀ value i = (small : least ≤ 1) → Digits least small text at value i

@@ -9,10 +9,6 @@ use Rattle.scanner.proofs.Steps.{still, found, halted}
 use Rattle.scanner.proofs.Words.{Along, along-start, along-stop, along-next, along-done}
 use Rattle.scanner.proofs.word.Statement.{statement}
 use Rattle.scanner.proofs.word.Tie as tie
-use Rattle.scanner.proofs.word.Reads as reads
-use Rattle.scanner.proofs.word.Lts as lts
-use Rattle.scanner.proofs.byte_at.Reads as byte-at-reads
-use Rattle.scanner.proofs.stop.Reads as stop-reads
 
 abbrev Inv-loop : tie.InvT-loop
 Inv-loop text w at i₀ i = Along text w at i
