@@ -12,8 +12,11 @@ pub fn run() {
     show::verdict(b"demand 1000001", book::check(books::blanks(1_000_001)));
     bidders();
     segments();
+    starts();
+    prices();
     counts();
     first_fault();
+    first_line();
     rooms();
 }
 
@@ -45,6 +48,10 @@ fn segments() {
     );
     let backward = books::one(3, books::segment(60, 1, 400, 0));
     show::verdict(b"a segment 60 to 1", book::check(first(backward)));
+}
+
+// The price at the start of the second segment.
+fn starts() {
     let free = books::two(
         3,
         books::segment(1, 60, 400, 0),
@@ -57,6 +64,9 @@ fn segments() {
         books::segment(61, 100, 350, -21_351),
     );
     show::verdict(b"seg 61 100 350 -21351", book::check(first(below)));
+}
+
+fn prices() {
     let large = books::one(3, books::segment(1, 60, 400, 1_000_000_000_001));
     show::verdict(b"fixed price 1000000000001", book::check(first(large)));
     let small = books::one(3, books::segment(1, 60, 400, -1_000_000_000_001));
@@ -101,7 +111,7 @@ fn nine() -> Book {
     }
 }
 
-// In a line the rule with the lowest number, in a book the first line.
+// In a line the rule with the lowest number.
 fn first_fault() {
     let mut both = books::two(
         0,
@@ -111,6 +121,10 @@ fn first_fault() {
     show::verdict(b"5 and 7 in a line", book::check(first(both)));
     both.count = 7;
     show::verdict(b"4, 5 and 7 in a line", book::check(first(both)));
+}
+
+// In a book the first line.
+fn first_line() {
     let fine = books::one(12, books::segment(1, 60, 400, 0));
     let broken = books::one(12, books::segment(0, 60, 400, 0));
     show::verdict(

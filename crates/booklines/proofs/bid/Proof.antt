@@ -6,31 +6,24 @@ use borrow.Author.Needs.{needs}
 use Rattle.booklines.proofs.bid.Statement.{statement}
 use Rattle.booklines.proofs.bid.Tie as tie
 
--- src/lib.rt:22:42
 slice-aggregate-word : tie.Need-slice-aggregate-word
 slice-aggregate-word c = search needs
 
--- src/lib.rt:22:9
 word-requires : tie.Need-word-requires
 word-requires c κs = search needs
 
--- src/lib.rt:23:9
 number-requires : tie.Need-number-requires
 number-requires c κs = (c .word .ensures .1, omega arith)
 
--- src/lib.rt:25:9
 segments-requires : tie.Need-segments-requires
 segments-requires c κs = c .before .number .ensures .1 .1
 
--- src/lib.rt:28:52
 slice-aggregate-word-2 : tie.Need-slice-aggregate-word-2
 slice-aggregate-word-2 c = search needs
 
--- src/lib.rt:28:9
 word-requires-2 : tie.Need-word-requires-2
 word-requires-2 c κs = c .before .before .before .segments .ensures .1
 
--- src/lib.rt:18:1
 returns : tie.Need-returns
 returns c =
     let a = c .before .before .before .before .before .before .before .before .before .before .args in

@@ -14,19 +14,15 @@ Inv-loop text demand book₀ next₀ book next =
 abbrev μ-loop : tie.MeasureT-loop
 μ-loop text demand book₀ next₀ book next = left 40 bid bid-open tt (bidsKept demand) bidCount text (next .at) (next .stopped)
 
--- src/lib.rt:37:9
 bid-requires : tie.Need-bid-requires Inv-loop μ-loop
 bid-requires c κs = c .before .pre
 
--- src/lib.rt:38:9
 empty-book-requires : tie.Need-empty-book-requires Inv-loop μ-loop
 empty-book-requires c κs = tt
 
--- src/lib.rt:42:5
 with-bid-requires : tie.Need-with-bid-requires Inv-loop μ-loop
 with-bid-requires c κs = omega (arith, ap bidCount (c .before .empty-book .ensures))
 
--- src/lib.rt:44:5
 loop-holds : tie.Need-loop-holds Inv-loop μ-loop
 loop-holds c =
     let a = c .before .before .before .before .before .before .args in
@@ -38,19 +34,15 @@ loop-holds c =
     (one-bid (a .demand) (c .before .before .before .empty-book .result) (f .result .bid) b (r .result)
     (c .before .before .before .empty-book .ensures) (f .ensures .0 .1) (r .ensures))
 
--- src/lib.rt:44:11
 begins-requires : tie.Need-begins-requires Inv-loop μ-loop
 begins-requires c κs = tt
 
--- src/lib.rt:45:13
 bid-requires-2 : tie.Need-bid-requires-2 Inv-loop μ-loop
 bid-requires-2 c κs = c .before .before .loop .inv .run .within
 
--- src/lib.rt:47:9
 with-bid-requires-2 : tie.Need-with-bid-requires-2 Inv-loop μ-loop
 with-bid-requires-2 c κs = omega (arith, c .before .before .before .before .loop .inv .few, c .before .before .before .before .loop .inv .run .within)
 
--- src/lib.rt:44:5
 loop-less : tie.Need-loop-less Inv-loop μ-loop
 loop-less c =
     let a = c .before .before .before .before .before .before .before .before .before .before .before .before .before .args in
@@ -60,7 +52,6 @@ loop-less c =
     (sym (c .before .before .before .before .before .begins .ensures) ∙ c .before .before .before .before .if1 .taken)
     (parsed .ensures .0 .0) (parsed .result .next .at) (parsed .result .next .stopped) (parsed .ensures .0 .2)
 
--- src/lib.rt:44:5
 loop-again : tie.Need-loop-again Inv-loop μ-loop
 loop-again c =
     let a = c .before .before .before .before .before .before .before .before .before .before .before .before .before .args in
@@ -76,7 +67,6 @@ loop-again c =
     (parsed .result .next .at) (parsed .result .next .stopped) (parsed .ensures .0 .2) (r .result)
     (λ xs e. r .ensures ∙ ap (withBid (l .book)) (parsed .ensures .0 .1) ∙ bid-kept (a .demand) (l .book) b xs e) (ap bidCount (r .ensures))
 
--- src/lib.rt:33:1
 returns : tie.Need-returns Inv-loop μ-loop
 returns c =
     let a = c .before .before .before .before .before .before .before .before .before .args in

@@ -5,27 +5,21 @@ use borrow.Author.Needs.{needs}
 use Rattle.booklines.proofs.book.Statement.{statement}
 use Rattle.booklines.proofs.book.Tie as tie
 
--- src/lib.rt:57:70
 slice-aggregate-word : tie.Need-slice-aggregate-word
 slice-aggregate-word c = search needs
 
--- src/lib.rt:57:9
 word-requires : tie.Need-word-requires
 word-requires c κs = search needs
 
--- src/lib.rt:58:45
 slice-aggregate-field : tie.Need-slice-aggregate-field
 slice-aggregate-field c = search needs
 
--- src/lib.rt:58:9
 field-requires : tie.Need-field-requires
 field-requires c κs = c .before .word .ensures .1
 
--- src/lib.rt:60:5
 bids-requires : tie.Need-bids-requires
 bids-requires c κs = c .before .field .ensures .1
 
--- src/lib.rt:54:1
 returns : tie.Need-returns
 returns c =
     let t = c .before .before .before .before .before .before .before .args .text .now in

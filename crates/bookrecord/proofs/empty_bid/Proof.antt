@@ -2,11 +2,9 @@ use borrow.Author.Needs.{needs}
 use Rattle.bookrecord.proofs.empty_bid.Statement.{statement}
 use Rattle.bookrecord.proofs.empty_bid.Tie as tie
 
--- src/lib.rt:27:9
 empty-segment-requires : tie.Need-empty-segment-requires
 empty-segment-requires c κs = search needs
 
--- src/lib.rt:24:1
 returns : tie.Need-returns
 returns c = rw (c .empty-segment .ensures)
 

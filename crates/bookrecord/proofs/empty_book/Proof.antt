@@ -2,11 +2,9 @@ use borrow.Author.Needs.{needs}
 use Rattle.bookrecord.proofs.empty_book.Statement.{statement}
 use Rattle.bookrecord.proofs.empty_book.Tie as tie
 
--- src/lib.rt:38:9
 empty-bid-requires : tie.Need-empty-bid-requires
 empty-bid-requires c κs = search needs
 
--- src/lib.rt:35:1
 returns : tie.Need-returns
 returns c = rw (c .empty-bid .ensures)
 

@@ -2,7 +2,6 @@ use mathlib.Core.Path.{refl}
 use Rattle.bookrecord.proofs.empty_segment.Statement.{statement}
 use Rattle.bookrecord.proofs.empty_segment.Tie as tie
 
--- src/lib.rt:15:1
 returns : tie.Need-returns
 returns c = refl
 

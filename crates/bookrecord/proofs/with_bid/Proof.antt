@@ -3,23 +3,18 @@ use borrow.Author.Needs.{needs}
 use Rattle.bookrecord.proofs.with_bid.Statement.{statement}
 use Rattle.bookrecord.proofs.with_bid.Tie as tie
 
--- src/lib.rt:66:18
 add-more : tie.Need-add-more
 add-more c = search needs
 
--- src/lib.rt:68:9
 returns : tie.Need-returns
 returns c = rw (le-ltb (c .before .args .book .count) 8 (c .if1 .taken))
 
--- src/lib.rt:70:5
 mul-bid : tie.Need-mul-bid
 mul-bid c = search needs
 
--- src/lib.rt:70:5
 element-set-from-bid : tie.Need-element-set-from-bid
 element-set-from-bid c = search needs
 
--- src/lib.rt:60:1
 returns-2 : tie.Need-returns-2
 returns-2 c = rw (lt-ltb (c .before .args .book .count) 8 (c .if1 .left))
 

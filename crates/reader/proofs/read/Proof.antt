@@ -6,23 +6,18 @@ use borrow.Author.Needs.{needs}
 use Rattle.reader.proofs.read.Statement.{statement}
 use Rattle.reader.proofs.read.Tie as tie
 
--- src/lib.rt:34:9
 refused-requires : tie.Need-refused-requires
 refused-requires c κs = search needs
 
--- src/lib.rt:34:9
 returns : tie.Need-returns
 returns c = c .refused .ensures ∙ read-long (c .before .before .before .args .text .now) (c .before .if1 .taken)
 
--- src/lib.rt:36:9
 book-requires : tie.Need-book-requires
 book-requires c κs = search needs
 
--- src/lib.rt:39:9
 refused-requires-2 : tie.Need-refused-requires-2
 refused-requires-2 c κs = search needs
 
--- src/lib.rt:39:9
 returns-2 : tie.Need-returns-2
 returns-2 c =
     let t = c .before .before .before .before .before .before .args .text .now in
@@ -31,11 +26,9 @@ returns-2 c =
     ∙ read-stopped t (c .before .before .before .before .if1 .left) (b .result .next .at)
     (subst (Gives book t 0 (b .ensures .0) (b .result .next .at)) (c .before .if2 .taken) (b .ensures .2))
 
--- src/lib.rt:42:9
 refused-requires-3 : tie.Need-refused-requires-3
 refused-requires-3 c κs = search needs
 
--- src/lib.rt:42:9
 returns-3 : tie.Need-returns-3
 returns-3 c =
     let t = c .before .before .before .before .before .before .before .before .args .text .now in
@@ -45,19 +38,15 @@ returns-3 c =
     (subst (Gives book t 0 (b .ensures .0) (b .result .next .at)) (c .before .before .before .if2 .left) (b .ensures .2))
     (c .before .if3 .taken)
 
--- src/lib.rt:45:9
 check-requires : tie.Need-check-requires
 check-requires c κs = search needs
 
--- src/lib.rt:46:29
 enum-known-verdict : tie.Need-enum-known-verdict
 enum-known-verdict c = search needs
 
--- src/lib.rt:47:9
 refused-requires-4 : tie.Need-refused-requires-4
 refused-requires-4 c κs = search needs
 
--- src/lib.rt:47:9
 returns-4 : tie.Need-returns-4
 returns-4 c =
     let t = c .before .before .before .before .before .before .before .before .before .before .before .before .before .args .text .now in
@@ -77,7 +66,6 @@ returns-4 c =
 enum-told : tie.Need-enum-told
 enum-told c = search needs
 
--- src/lib.rt:30:1
 returns-5 : tie.Need-returns-5
 returns-5 c =
     let t = c .before .before .before .before .before .before .before .before .before .before .before .args .text .now in

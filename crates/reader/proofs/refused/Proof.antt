@@ -2,11 +2,9 @@ use borrow.Author.Needs.{needs}
 use Rattle.reader.proofs.refused.Statement.{statement}
 use Rattle.reader.proofs.refused.Tie as tie
 
--- src/lib.rt:25:15
 empty-book-requires : tie.Need-empty-book-requires
 empty-book-requires c κs = search needs
 
--- src/lib.rt:20:1
 returns : tie.Need-returns
 returns c = rw (c .empty-book .ensures)
 

@@ -10,51 +10,39 @@ use borrow.Author.Needs.{needs}
 use Rattle.booklines.proofs.segments.segment.Statement.{statement}
 use Rattle.booklines.proofs.segments.segment.Tie as tie
 
--- src/segments.rt:30:42
 slice-aggregate-word : tie.Need-slice-aggregate-word
 slice-aggregate-word c = search needs
 
--- src/segments.rt:30:9
 word-requires : tie.Need-word-requires
 word-requires c κs = search needs
 
--- src/segments.rt:31:44
 slice-aggregate-field : tie.Need-slice-aggregate-field
 slice-aggregate-field c = search needs
 
--- src/segments.rt:31:9
 field-requires : tie.Need-field-requires
 field-requires c κs = search needs
 
--- src/segments.rt:33:49
 slice-aggregate-field-2 : tie.Need-slice-aggregate-field-2
 slice-aggregate-field-2 c = search needs
 
--- src/segments.rt:33:9
 field-requires-2 : tie.Need-field-requires-2
 field-requires-2 c κs = search needs
 
--- src/segments.rt:35:48
 slice-aggregate-field-3 : tie.Need-slice-aggregate-field-3
 slice-aggregate-field-3 c = search needs
 
--- src/segments.rt:35:9
 field-requires-3 : tie.Need-field-requires-3
 field-requires-3 c κs = search needs
 
--- src/segments.rt:37:9
 signed-requires : tie.Need-signed-requires
 signed-requires c κs = search needs
 
--- src/segments.rt:39:49
 slice-aggregate-word-2 : tie.Need-slice-aggregate-word-2
 slice-aggregate-word-2 c = search needs
 
--- src/segments.rt:39:9
 word-requires-2 : tie.Need-word-requires-2
 word-requires-2 c κs = search needs
 
--- src/segments.rt:26:1
 returns : tie.Need-returns
 returns c =
     let a =

@@ -14,19 +14,15 @@ Inv-loop text bidder bid₀ next₀ bid next =
 abbrev μ-loop : tie.MeasureT-loop
 μ-loop text bidder bid₀ next₀ bid next = left 32 segment segment-space tt (segmentsKept bidder) segmentCount text (next .at) (next .stopped)
 
--- src/segments.rt:56:9
 segment-requires : tie.Need-segment-requires Inv-loop μ-loop
 segment-requires c κs = c .before .pre
 
--- src/segments.rt:57:9
 empty-bid-requires : tie.Need-empty-bid-requires Inv-loop μ-loop
 empty-bid-requires c κs = tt
 
--- src/segments.rt:60:5
 with-segment-requires : tie.Need-with-segment-requires Inv-loop μ-loop
 with-segment-requires c κs = omega (arith, ap segmentCount (c .before .empty-bid .ensures))
 
--- src/segments.rt:62:5
 loop-holds : tie.Need-loop-holds Inv-loop μ-loop
 loop-holds c =
     let a = c .before .before .before .before .before .before .args in
@@ -38,20 +34,16 @@ loop-holds c =
     (one-segment (a .bidder) (c .before .before .before .empty-bid .result) (f .result .segment) (r .result)
     (c .before .before .before .empty-bid .ensures) (r .ensures))
 
--- src/segments.rt:62:11
 begins-requires : tie.Need-begins-requires Inv-loop μ-loop
 begins-requires c κs = tt
 
--- src/segments.rt:63:13
 segment-requires-2 : tie.Need-segment-requires-2 Inv-loop μ-loop
 segment-requires-2 c κs = c .before .before .loop .inv .run .within
 
--- src/segments.rt:65:9
 with-segment-requires-2 : tie.Need-with-segment-requires-2 Inv-loop μ-loop
 with-segment-requires-2 c κs =
     omega (arith, c .before .before .before .before .loop .inv .few, c .before .before .before .before .loop .inv .run .within)
 
--- src/segments.rt:62:5
 loop-less : tie.Need-loop-less Inv-loop μ-loop
 loop-less c =
     let a = c .before .before .before .before .before .before .before .before .before .before .before .before .before .args in
@@ -61,7 +53,6 @@ loop-less c =
     (l .inv .run .within) (sym (c .before .before .before .before .before .begins .ensures) ∙ c .before .before .before .before .if1 .taken)
     (parsed .result .segment) (parsed .result .next .at) (parsed .result .next .stopped) (parsed .ensures .0)
 
--- src/segments.rt:62:5
 loop-again : tie.Need-loop-again Inv-loop μ-loop
 loop-again c =
     let a = c .before .before .before .before .before .before .before .before .before .before .before .before .before .args in
@@ -76,7 +67,6 @@ loop-again c =
     (parsed .result .segment) (parsed .result .next .at) (parsed .result .next .stopped) (parsed .ensures .0) (r .result)
     (λ xs e. r .ensures ∙ segment-kept (a .bidder) (l .bid) (parsed .result .segment) xs e) (ap segmentCount (r .ensures))
 
--- src/segments.rt:52:1
 returns : tie.Need-returns Inv-loop μ-loop
 returns c =
     let a = c .before .before .before .before .before .before .before .before .before .args in

@@ -16,35 +16,27 @@ Inv-loop text refused₀ n₀ refused n = (n ≤ length text) × (refused ≤ n)
 abbrev μ-loop : tie.MeasureT-loop
 μ-loop text refused₀ n₀ refused n = length text - n
 
--- src/text_cases.rt:40:5
 loop-holds : tie.Need-loop-holds Inv-loop μ-loop
 loop-holds c = search needs
 
--- src/text_cases.rt:41:24
 slice-aggregate-cut : tie.Need-slice-aggregate-cut Inv-loop μ-loop
 slice-aggregate-cut c = sym (length-take-le (c .before .before .loop .n) (c .before .before .before .before .args .text .now) (omega arith))
 
--- src/text_cases.rt:41:20
 cut-requires : tie.Need-cut-requires Inv-loop μ-loop
 cut-requires c κs = search needs
 
--- src/text_cases.rt:41:9
 add-refused : tie.Need-add-refused Inv-loop μ-loop
 add-refused c = search needs
 
--- src/text_cases.rt:42:9
 add-n : tie.Need-add-n Inv-loop μ-loop
 add-n c = search needs
 
--- src/text_cases.rt:40:5
 loop-less : tie.Need-loop-less Inv-loop μ-loop
 loop-less c = search needs
 
--- src/text_cases.rt:40:5
 loop-again : tie.Need-loop-again Inv-loop μ-loop
 loop-again c = search needs
 
--- src/text_cases.rt:37:1
 returns : tie.Need-returns Inv-loop μ-loop
 returns c = search needs
 
