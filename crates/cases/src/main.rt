@@ -1,15 +1,13 @@
-// Runs the cases of document 01, section "Cases", that concern records and texts, and others at the edges of
+// Runs the cases of document 01, section "Cases", that concern records, and others at the edges of
 // the rules, and prints what it gets. What it must print stands in stdout.
 mod books;
 mod check_cases;
 mod sample_cases;
 mod show;
 mod split_cases;
-mod text_cases;
 
 fn main() {
     check_cases::run();
     split_cases::run();
     sample_cases::run();
-    text_cases::run();
 }

@@ -1,13 +1,12 @@
 // Samples at the edges of the bands.
-use crate::show;
 use money::Blanks;
 
 fn sample_of(quantity: u64) {
-    show::text(b"sample of ");
-    show::number(quantity);
-    show::text(b": ");
-    show::number(sampling::sample(Blanks(quantity)).0);
-    show::text(b"\n");
+    report::text(b"sample of ");
+    report::number(quantity);
+    report::text(b": ");
+    report::number(sampling::sample(Blanks(quantity)).0);
+    report::text(b"\n");
 }
 
 pub fn run() {

@@ -2,11 +2,11 @@ use native.Mathlib.Omega.{arith}
 use mathlib.Core.Path.{_≡_, sym}
 use lib.Seq.{length-take-le}
 use borrow.Author.Needs.{needs}
-use Rattle.cases.proofs.show.first.Statement.{statement}
-use Rattle.cases.proofs.show.first.Tie as tie
-use Rattle.cases.proofs.show.first.Reads as reads
-use Rattle.cases.proofs.show.first.Lts as lts
-use Rattle.cases.proofs.show.text.Reads as text-reads
+use Rattle.textcases.proofs.show.first.Statement.{statement}
+use Rattle.textcases.proofs.show.first.Tie as tie
+use Rattle.textcases.proofs.show.first.Reads as reads
+use Rattle.textcases.proofs.show.first.Lts as lts
+use Rattle.report.proofs.text.Reads as text-reads
 
 returns : tie.Need-returns
 returns c = search needs

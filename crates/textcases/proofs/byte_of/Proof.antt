@@ -3,10 +3,10 @@ use native.Mathlib.Nat.{mod-lt}
 use native.Mathlib.Omega.{arith}
 use lib.ListN.{length}
 use borrow.Author.Needs.{needs}
-use Rattle.cases.proofs.text_cases.byte_of.Statement.{statement}
-use Rattle.cases.proofs.text_cases.byte_of.Tie as tie
-use Rattle.cases.proofs.text_cases.byte_of.Reads as reads
-use Rattle.cases.proofs.text_cases.byte_of.Lts as lts
+use Rattle.textcases.proofs.byte_of.Statement.{statement}
+use Rattle.textcases.proofs.byte_of.Tie as tie
+use Rattle.textcases.proofs.byte_of.Reads as reads
+use Rattle.textcases.proofs.byte_of.Lts as lts
 
 shared-slice-read-result : tie.Need-shared-slice-read-result
 shared-slice-read-result c = search needs

@@ -4,11 +4,11 @@ use mathlib.Core.Path.{_≡_, sym}
 use borrow.Author.Needs.{needs}
 use lib.ListN.{length}
 use lib.Seq.{length-take-le}
-use Rattle.cases.proofs.text_cases.cuts.Statement.{statement}
-use Rattle.cases.proofs.text_cases.cuts.Tie as tie
-use Rattle.cases.proofs.text_cases.cuts.Reads as reads
-use Rattle.cases.proofs.text_cases.cuts.Lts as lts
-use Rattle.cases.proofs.text_cases.cut.Reads as cut-reads
+use Rattle.textcases.proofs.cuts.Statement.{statement}
+use Rattle.textcases.proofs.cuts.Tie as tie
+use Rattle.textcases.proofs.cuts.Reads as reads
+use Rattle.textcases.proofs.cuts.Lts as lts
+use Rattle.textcases.proofs.cut.Reads as cut-reads
 
 abbrev Inv-loop : tie.InvT-loop
 Inv-loop text refused₀ n₀ refused n = (n ≤ length text) × (refused ≤ n)

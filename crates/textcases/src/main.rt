@@ -1,28 +1,29 @@
-// Texts that are read, and books that are written.
+// Runs the cases of document 01, section "Cases", that concern texts, and others at the edges of the rules, and prints what it
+// gets. What it must print stands in stdout.
 ghost use Prim.Native.Nat.{_≤_};
-use crate::books;
-use crate::show;
 use book::Book;
 
-pub fn run() {
+mod show;
+
+fn main() {
     let book =
         b"(demand 120)\n(bid 3 (seg 1 60 400 0) (seg 61 100 350 -500))\n(bid 8 (seg 20 80 380 1000))\n(bid 12 (seg 120 120 370 0))\n";
     let mut out = [0u8; 200];
     again(book, &mut out);
     let refused = cuts(book);
-    show::text(b"cut elsewhere, refused 2 at the cut: ");
-    show::number(refused);
-    show::text(b"\n");
+    report::text(b"cut elsewhere, refused 2 at the cut: ");
+    report::number(refused);
+    report::text(b"\n");
     shapes();
     rules();
     lengths();
-    outputs();
+    outputs(book);
 }
 
 fn read(name: &[u8], text: &[u8]) {
     let r = reader::read(text);
     let verdict = r.verdict;
-    show::verdict(name, verdict);
+    report::verdict(name, verdict);
 }
 
 // Reads a text and writes its book.
@@ -30,7 +31,7 @@ fn again(text: &[u8], out: &mut [u8]) {
     let r = reader::read(text);
     let book = r.book;
     let w = writer::write(book, out);
-    show::text(b"read and written:\n");
+    report::text(b"read and written:\n");
     show::first(out, w.bytes);
 }
 
@@ -175,17 +176,21 @@ fn byte_of(first: &[u8], again: &[u8], i: usize) -> u8 {
 fn written(name: &[u8], book: Book, out: &mut [u8]) {
     let w = writer::write(book, out);
     show::written(name, w);
-    show::text(out);
-    show::text(b"\n");
+    report::text(out);
+    report::text(b"\n");
 }
 
-fn outputs() {
+fn outputs(text: &[u8]) {
+    let r = reader::read(text);
+    let book = r.book;
     let mut room = [b'.'; 200];
-    written(b"room for the text", books::blanks(120), &mut room);
+    written(b"room for the text", book, &mut room);
     let mut short = [b'.'; 117];
-    written(b"one byte short", books::blanks(120), &mut short);
+    written(b"one byte short", book, &mut short);
     let mut none: [u8; 0] = [];
-    written(b"no room", books::blanks(120), &mut none);
-    let mut broken = [b'.'; 200];
-    written(b"demand 0", books::blanks(0), &mut broken);
+    written(b"no room", book, &mut none);
+    let mut broken = book;
+    broken.count = 0;
+    let mut unused = [b'.'; 200];
+    written(b"no bids in the record", broken, &mut unused);
 }

@@ -4,11 +4,11 @@ use Prim.Native.Nat.{_-_}
 use native.Mathlib.Omega.{arith}
 use borrow.Author.Needs.{needs}
 use lib.ListN.{length, length-set}
-use Rattle.cases.proofs.text_cases.fill.Statement.{statement}
-use Rattle.cases.proofs.text_cases.fill.Tie as tie
-use Rattle.cases.proofs.text_cases.fill.Reads as reads
-use Rattle.cases.proofs.text_cases.fill.Lts as lts
-use Rattle.cases.proofs.text_cases.byte_of.Reads as byte-of-reads
+use Rattle.textcases.proofs.fill.Statement.{statement}
+use Rattle.textcases.proofs.fill.Tie as tie
+use Rattle.textcases.proofs.fill.Reads as reads
+use Rattle.textcases.proofs.fill.Lts as lts
+use Rattle.textcases.proofs.byte_of.Reads as byte-of-reads
 
 abbrev Inv-loop : tie.InvT-loop
 Inv-loop text₀ first again i₀ text i = (i ≤ length text) × (length text ≡ length text₀)

@@ -1,0 +1,30 @@
+// What a test program got, as lines of standard output. The functions are pub for the test programs. They have no contract: what is
+// printed is compared with a file and not proved.
+use refusal::Verdict;
+
+pub fn text(t: &[u8]) {
+    io::write_all(1, t);
+}
+
+pub fn number(n: u64) {
+    io::print_decimal(1, n);
+}
+
+pub fn outcome(verdict: Verdict) {
+    if let Verdict::Accepted = verdict {
+        text(b"accepted");
+        return;
+    }
+    text(b"(refused ");
+    number(refusal::number(verdict));
+    text(b" ");
+    number(refusal::place(verdict));
+    text(b")");
+}
+
+pub fn verdict(name: &[u8], verdict: Verdict) {
+    text(name);
+    text(b": ");
+    outcome(verdict);
+    text(b"\n");
+}
