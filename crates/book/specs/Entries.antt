@@ -7,13 +7,13 @@ use Rattle.book.specs.declared.Segment.{Segment}
 use Rattle.book.specs.declared.Bid.{Bid}
 use Rattle.book.specs.declared.Book.{Book}
 
--- A bid: the bidder number, how many segments it has, and those that the record holds.
+-- A bid: the bidder number, how many segments it has, and the segments; of a record, those that it holds.
 pub record BidEntries : Type 0 where
   pub bidder : ℕ
   pub count : ℕ
   pub segments : List Segment
 
--- A bid book: the demand in blanks, how many bids it has, and those that the record holds.
+-- A bid book: the demand in blanks, how many bids it has, and the bids; of a record, those that it holds.
 pub record BookEntries : Type 0 where
   pub demand : ℕ
   pub count : ℕ

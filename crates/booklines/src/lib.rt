@@ -11,6 +11,7 @@ use money::Blanks;
 use scanner::Cursor;
 use segments::ParsedBid;
 
+// A record, and where parsing stands after it. Where it has stopped, the record is of no meaning.
 pub struct ParsedBook {
     pub book: Book,
     pub next: Cursor,

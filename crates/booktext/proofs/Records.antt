@@ -4,7 +4,7 @@ use native.Mathlib.Omega.{arith}
 use mathlib.Core.List.{List, [], _∷_, _++_, map}
 use mathlib.Core.Path.{_≡_, refl, sym, ap, _∙_, subst}
 use lib.ListN.{length, set, take, replicate, length-append, length-map, length-replicate, replicate-append-replicate}
-use lib.Seq.{take-all, take-at, take-take, take-append-le, take-append-add, take-append-seam, set-append-seam, append-snoc, length-take-le}
+use lib.Seq.{take-at, take-take, take-append-le, take-append-add, take-append-seam, set-append-seam, append-snoc, length-take-le}
 use Rattle.lists.specs.All.{All}
 use Rattle.lists.proofs.All.{all-from, all-both, all-any, all-append, all-same, all-take, all-map, map-all, map-back}
 use Rattle.refusal.specs.declared.Verdict.the-variants.{Accepted}
@@ -48,9 +48,6 @@ module _ {A : Type 0} where
   padded-full n zero-entry xs x h =
       let more : n ≤ length (xs ++ x ∷ []) = rw length-append (omega arith) in
       take-append-le n (xs ++ x ∷ []) (replicate n zero-entry) more ∙ take-append-le n xs (x ∷ []) h ∙ sym (take-append-le n xs (replicate n zero-entry) h)
-
-  pub padded-none : (n : ℕ) (zero-entry : A) → padded n zero-entry [] ≡ replicate n zero-entry
-  padded-none n zero-entry = take-all n (replicate n zero-entry) (omega (arith, length-replicate n zero-entry))
 
   -- within the count, the entries themselves
   pub take-padded : (n : ℕ) (zero-entry : A) (xs : List A) → length xs ≤ n → take (length xs) (padded n zero-entry xs) ≡ xs

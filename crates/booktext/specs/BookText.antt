@@ -10,7 +10,11 @@ use Rattle.book.specs.Entries.{BidEntries, BookEntries}
 -- start, end, unit price and fixed price, with the space before
 unfoldable pub segmentText : Segment → List ℕ
 segmentText s =
-    ascii " (seg " ++ digits (s .start .0) ++ ascii " " ++ digits (s .end .0) ++ ascii " " ++ digits (s .unit .0) ++ ascii " " ++ signedDigits (s .fixed .0) ++ ascii ")"
+    ascii " (seg " ++ digits (s .start .0)
+    ++ ascii " " ++ digits (s .end .0)
+    ++ ascii " " ++ digits (s .unit .0)
+    ++ ascii " " ++ signedDigits (s .fixed .0)
+    ++ ascii ")"
 
 -- the bidder number and the segments
 unfoldable pub bidText : BidEntries → List ℕ

@@ -8,6 +8,6 @@ use lib.ListN.{length, take, drop}
 unfoldable pub written : List ℕ → ℕ → List ℕ → List ℕ
 written out at s = take at out ++ (s ++ drop (at + length s) out)
 
--- s was written from `at` on, and `next` is the place after it
+-- For the contracts of the printer and of the writers above it: s was written from `at` on, and `next` is the place after it.
 abbrev pub Wrote : List ℕ → ℕ → List ℕ → List ℕ → ℕ → Type 0
 Wrote out at s exit next = (next ≡ at + length s) × (exit ≡ written out at s)

@@ -27,7 +27,8 @@ bookAnswer b =
     let verdict = bookVerdict (bookEntries (bookRecord b)) in
     record { verdict = verdict; book = whenAccepted verdict (bookRecord b) emptyBook }
 
--- any text: refused by its length, or answered by what it is, a book's text or not of the shape
+-- any text: refused by its length, or answered by what it is, a book's text or not of the shape; which of its readings is taken makes no
+-- difference (reader/proofs/Answers.antt: `any-reading`)
 unfoldable pub readOf : List ℕ → BookRead
 readOf t =
     cond (leb (length t) 4096) (answer WellFormedBook bookText bookAnswer (refusedAnswer Shape) (book-reading t))

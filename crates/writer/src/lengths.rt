@@ -1,4 +1,5 @@
-// How many bytes the text of a book takes, line by line.
+// How many bytes the text of a book takes, line by line. Beside its numbers a segment has 10 bytes, a bid 7 and the demand 10; a
+// number of 64 bits has at most 20 digits, so that no sum is large.
 ghost use mathlib.Core.Path.{_≡_};
 ghost use Prim.Native.Nat.{_≤_};
 ghost use lib.ListN.{length};

@@ -1,4 +1,4 @@
-// The lines of a book, written one after the other from a place of the output on. Each function answers the place after its line,
+// The lines of a book, written one after the other from a place of the output on. Each function answers the place after what it wrote,
 // and its caller has measured that there is room.
 ghost use mathlib.Core.Path.{_≡_};
 ghost use Prim.Native.Nat.{_+_, _≤_};
