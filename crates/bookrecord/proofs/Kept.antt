@@ -6,13 +6,14 @@ use mathlib.Core.Path.{_≡_, refl, sym, ap, ap₂, _∙_}
 use borrow.Author.Tests.{ltb-true, ltb-false}
 use lib.Dec.{ltb}
 use lib.ListN.{length, set, length-append, length-map}
+use Rattle.lists.specs.Padded.{padded}
+use Rattle.lists.proofs.Padded.{padded-next, padded-full}
 use Rattle.book.specs.declared.Segment.{Segment}
 use Rattle.book.specs.declared.Bid.{Bid}
 use Rattle.book.specs.declared.Book.{Book}
 use Rattle.book.specs.Entries.{BidEntries}
-use Rattle.booktext.specs.Record.{padded, emptySegment, emptyBid, emptyBook, bidRecord, bookRecord}
+use Rattle.booktext.specs.Record.{emptySegment, emptyBid, emptyBook, bidRecord, bookRecord}
 use Rattle.booktext.proofs.BookForm.{bidOf, bookOf}
-use Rattle.booktext.proofs.Records.{padded-next, padded-full}
 use Rattle.bookrecord.specs.Adding.{added, withSegment, withBid}
 
 added-padded : {A : Type 0} (n : ℕ) (zero-entry : A) (xs : List A) (x : A) → added n (padded n zero-entry xs) (length xs) x ≡ padded n zero-entry (xs ++ x ∷ [])

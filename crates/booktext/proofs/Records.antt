@@ -1,12 +1,11 @@
 -- What a record holds of the entries of a text: the first n, then blanks; and the entries that it gives back. Assumes nothing.
-use Prim.Native.Nat.{ℕ, suc, _+_, _-_, _≤_, _<_}
-use native.Mathlib.Omega.{arith}
-use mathlib.Core.List.{List, [], _∷_, _++_, map}
-use mathlib.Core.Path.{_≡_, refl, sym, ap, _∙_, subst}
-use lib.ListN.{length, set, take, replicate, length-append, length-map, length-replicate, replicate-append-replicate}
-use lib.Seq.{take-at, take-take, take-append-le, take-append-add, take-append-seam, set-append-seam, append-snoc, length-take-le}
+use Prim.Native.Nat.{_≤_}
+use mathlib.Core.List.{List, _++_, map}
+use mathlib.Core.Path.{_≡_, refl, ap, _∙_, subst}
+use lib.ListN.{replicate, length-map}
 use Rattle.lists.specs.All.{All}
 use Rattle.lists.proofs.All.{all-from, all-both, all-any, all-append, all-same, all-take, all-map, map-all, map-back}
+use Rattle.lists.proofs.Padded.{length-padded, take-count}
 use Rattle.refusal.specs.declared.Verdict.the-variants.{Accepted}
 use Rattle.book.specs.declared.Segment.{Segment}
 use Rattle.book.specs.Entries.{BidEntries, BookEntries, bidEntries, bookEntries}
@@ -14,47 +13,8 @@ use Rattle.book.specs.Rules.{bookVerdict}
 use Rattle.book.proofs.Accepted.{AcceptedBid, book-accepted}
 use Rattle.booktext.specs.Arrays.{SixSegments, Arrays}
 use Rattle.booktext.specs.WellFormed.{WellFormedBid, WellFormedBook}
-use Rattle.booktext.specs.Record.{padded, emptySegment, emptyBid, bidRecord, bookRecord}
+use Rattle.booktext.specs.Record.{emptySegment, emptyBid, bidRecord, bookRecord}
 use Rattle.booktext.proofs.Bids.{all-accepted}
-
-module _ {A : Type 0} where
-  take-replicate : (k m : ℕ) (zero-entry : A) → take k (replicate (k + m) zero-entry) ≡ replicate k zero-entry
-  take-replicate k m zero-entry = rw (← (replicate-append-replicate k m zero-entry)) (take-at _ _ k (length-replicate k zero-entry))
-
-  -- with k places left
-  padded-room : (n k : ℕ) (zero-entry : A) (xs : List A) → n ≡ length xs + k → padded n zero-entry xs ≡ xs ++ replicate k zero-entry
-  padded-room n k zero-entry xs e =
-      let f : n ≡ k + length xs = omega arith in
-      ap (λ (m : ℕ). take m (xs ++ replicate n zero-entry)) e
-      ∙ take-append-add xs (replicate n zero-entry) k
-      ∙ ap (λ (r : List A). xs ++ r) (rw f (take-replicate k (length xs) zero-entry))
-
-  -- always n
-  pub length-padded : (n : ℕ) (zero-entry : A) (xs : List A) → length (padded n zero-entry xs) ≡ n
-  length-padded n zero-entry xs = length-take-le n (xs ++ replicate n zero-entry) (simp (length-append, length-replicate) (omega arith))
-
-  -- one more entry: stored in the first zero-entry, or nowhere where the record is full
-  pub padded-next : (n : ℕ) (zero-entry : A) (xs : List A) (x : A) → length xs < n → set (padded n zero-entry xs) (length xs) x ≡ padded n zero-entry (xs ++ x ∷ [])
-  padded-next n zero-entry xs x h =
-      let k = n - suc (length xs) in
-      let here : n ≡ length xs + suc k = omega arith in
-      let next : n ≡ length (xs ++ x ∷ []) + k = rw length-append (omega arith) in
-      ap (λ (l : List A). set l (length xs) x) (padded-room n (suc k) zero-entry xs here)
-      ∙ set-append-seam xs zero-entry (replicate k zero-entry) x
-      ∙ sym (append-snoc xs x (replicate k zero-entry))
-      ∙ sym (padded-room n k zero-entry (xs ++ x ∷ []) next)
-
-  pub padded-full : (n : ℕ) (zero-entry : A) (xs : List A) (x : A) → n ≤ length xs → padded n zero-entry (xs ++ x ∷ []) ≡ padded n zero-entry xs
-  padded-full n zero-entry xs x h =
-      let more : n ≤ length (xs ++ x ∷ []) = rw length-append (omega arith) in
-      take-append-le n (xs ++ x ∷ []) (replicate n zero-entry) more ∙ take-append-le n xs (x ∷ []) h ∙ sym (take-append-le n xs (replicate n zero-entry) h)
-
-  -- within the count, the entries themselves
-  pub take-padded : (n : ℕ) (zero-entry : A) (xs : List A) → length xs ≤ n → take (length xs) (padded n zero-entry xs) ≡ xs
-  take-padded n zero-entry xs h = take-take (length xs) n (xs ++ replicate n zero-entry) h ∙ take-append-seam xs (replicate n zero-entry)
-
-  take-count : (n count : ℕ) (zero-entry : A) (xs : List A) → count ≡ length xs → count ≤ n → take count (padded n zero-entry xs) ≡ xs
-  take-count n count zero-entry xs e h = rw e (take-padded n zero-entry xs (omega arith))
 
 -- a bid for which a record has room
 abbrev pub FewSegments : BidEntries → Type 0

@@ -1,17 +1,13 @@
 -- The record of a text: its counts, the entries for which the record has room, and zeros past the counts. A count above the room
 -- stays as it is, so that the rules for a record refuse it.
-use Prim.Native.Nat.{ℕ}
-use mathlib.Core.List.{List, _++_, map}
+use mathlib.Core.List.{map}
 use lib.IntN.{pos}
-use lib.ListN.{take, replicate}
+use lib.ListN.{replicate}
+use Rattle.lists.specs.Padded.{padded}
 use Rattle.book.specs.declared.Segment.{Segment}
 use Rattle.book.specs.declared.Bid.{Bid}
 use Rattle.book.specs.declared.Book.{Book}
 use Rattle.book.specs.Entries.{BidEntries, BookEntries}
-
--- the first n of xs, with a zero entry for each that is missing
-abbrev pub padded : {A : Type 0} → ℕ → A → List A → List A
-padded n zero-entry xs = take n (xs ++ replicate n zero-entry)
 
 -- all zeros
 abbrev pub emptySegment : Segment

@@ -3,3 +3,6 @@ pub mod Slices
 pub mod Everywhere
 pub mod All
 pub mod Joined
+pub mod Padded
+pub mod Members
+pub mod Latest

@@ -1,3 +1,5 @@
 pub mod Every
 pub mod All
 pub mod Joined
+pub mod Padded
+pub mod Those

@@ -9,6 +9,7 @@ use lib.Dec.{eqb}
 use Rattle.book.specs.declared.Book.{Book}
 use Rattle.book.specs.Entries.{BookEntries, bookEntries, SameBook}
 use Rattle.refusal.specs.declared.Verdict.the-variants.{Accepted}
+use Rattle.supply.specs.Supply.{suppliesOf}
 use Rattle.supply.specs.Allocation.{total, costOf}
 use Rattle.split.specs.Split.{splitVerdict, splitOf}
 
@@ -18,7 +19,7 @@ same-split a b rs e = ap (λ (x : BookEntries). splitOf x rs) e
 
 module _ (b : BookEntries) (rs : List ℕ) (accepted : splitVerdict b rs ≡ Accepted) where
   -- a split that is not refused costs the sum of the supply functions' prices
-  pub price-is-sum : splitOf b rs .price .0 ≡ costOf (b .bids) rs
+  pub price-is-sum : splitOf b rs .price .0 ≡ costOf (suppliesOf (b .bids)) rs
   unfolding splitOf
   price-is-sum = rw accepted
 

@@ -21,7 +21,7 @@ use Rattle.book.proofs.InRange.{mostBlanks, mostCents}
 use Rattle.book.proofs.Bids.{entriesFrom, entries-next, entries-done}
 use Rattle.refusal.specs.declared.Rule.the-variants.{SplitQuantity}
 use Rattle.refusal.specs.declared.Verdict.the-variants.{Accepted, Refused}
-use Rattle.supply.specs.Supply.{supplyOf, offers, priceAt}
+use Rattle.supply.specs.Supply.{supplyOf, suppliesOf, offers, priceAt}
 use Rattle.supply.specs.Allocation.{total, costOf}
 use Rattle.supply.proofs.Offers.{Small}
 use Rattle.split.specs.Split.{quantitiesVerdict, splitOf, refusedSplit}
@@ -33,7 +33,7 @@ pub record Left (book : Book) (rs : List ℕ) (price : ℤ) (sum i : ℕ) : Type
   pub sum-size : sum ≤ mostBlanks * i
   pub price-size : natAbs price ≤ mostCents * i
   pub verdict : quantitiesVerdict 2 (bookEntries book .bids) rs ≡ quantitiesVerdict (2 + i) (entriesFrom i (book .count) (book .bids)) (drop i rs)
-  pub cost : costOf (bookEntries book .bids) rs ≡ price +ℤ costOf (entriesFrom i (book .count) (book .bids)) (drop i rs)
+  pub cost : costOf (suppliesOf (bookEntries book .bids)) rs ≡ price +ℤ costOf (suppliesOf (entriesFrom i (book .count) (book .bids))) (drop i rs)
   pub blanks : total rs ≡ sum + total (drop i rs)
 
 pub left-all : (book : Book) (rs : List ℕ) → Left book rs (pos 0) 0 0
@@ -84,12 +84,12 @@ module _ {book : Book} {rs : List ℕ} {price : ℤ} {sum i : ℕ} (left : Left 
         pub sum-fits : i < 8 → SFits w64 (price +ℤ p)
         sum-fits h = small-fits (price +ℤ p) (omega (arith, sum-small))
 
-        next-cost : costOf (bookEntries book .bids) rs ≡ (price +ℤ p) +ℤ costOf later (drop (i + 1) rs)
+        next-cost : costOf (suppliesOf (bookEntries book .bids)) rs ≡ (price +ℤ p) +ℤ costOf (suppliesOf later) (drop (i + 1) rs)
         next-cost =
             left .cost
             ∙ ap (λ (z : ℤ). price +ℤ z) (cost-next (2 + i) _ (drop i rs) (bidEntries bid) later here r (drop (i + 1) rs) this)
-            ∙ ap (λ (z : ℤ). price +ℤ (z +ℤ costOf later (drop (i + 1) rs))) is-price
-            ∙ sym (+ℤ-assoc price p (costOf later (drop (i + 1) rs)))
+            ∙ ap (λ (z : ℤ). price +ℤ (z +ℤ costOf (suppliesOf later) (drop (i + 1) rs))) is-price
+            ∙ sym (+ℤ-assoc price p (costOf (suppliesOf later) (drop (i + 1) rs)))
 
         pub left-next : offers (supplyOf (bidEntries bid)) r ≡ true → (price′ : ℤ) → price′ ≡ price +ℤ p
             → Left book rs price′ (sum + r) (i + 1)
@@ -120,6 +120,6 @@ module _ {book : Book} {rs : List ℕ} {price : ℤ} {sum i : ℕ} (left : Left 
     complete h =
         let over = drop-of-length-le rs h in
         let passed = book-passed (bookEntries book) rs accepted ∙ left .verdict ∙ split-done (2 + i) _ (drop i rs) none over in
-        let cost = left .cost ∙ ap (λ (bs : List BidEntries). price +ℤ costOf bs (drop i rs)) none ∙ +ℤ-idr price in
+        let cost = left .cost ∙ ap (λ (bs : List BidEntries). price +ℤ costOf (suppliesOf bs) (drop i rs)) none ∙ +ℤ-idr price in
         let blanks = left .blanks ∙ ap (λ (l : List ℕ). sum + total l) over ∙ add-zero sum in
         rw (passed, cost, blanks)

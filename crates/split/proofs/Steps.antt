@@ -10,7 +10,7 @@ use Rattle.refusal.proofs.Firsts.{only}
 use Rattle.refusal.specs.declared.Rule.{Rule}
 use Rattle.refusal.specs.declared.Rule.the-variants.{SplitQuantity}
 use Rattle.refusal.specs.declared.Verdict.the-variants.{Accepted, Refused}
-use Rattle.supply.specs.Supply.{supplyOf, offers, priceAt}
+use Rattle.supply.specs.Supply.{supplyOf, suppliesOf, offers, priceAt}
 use Rattle.supply.specs.Allocation.{total, costOf}
 use Rattle.split.specs.Split.{quantitiesVerdict, splitVerdict, splitOf, refusedSplit}
 
@@ -37,7 +37,7 @@ module _ (line : ℕ) (bs : List BidEntries) (rs : List ℕ) where
       unfolding quantitiesVerdict
       split-next e = rw (here, this, e) (only (quantitiesVerdict (line + 1) bs′ rs′))
 
-      pub cost-next : costOf bs rs ≡ priceAt (supplyOf b) r +ℤ costOf bs′ rs′
+      pub cost-next : costOf (suppliesOf bs) rs ≡ priceAt (supplyOf b) r +ℤ costOf (suppliesOf bs′) rs′
       unfolding costOf
       cost-next = rw (here, this)
 

@@ -10,7 +10,7 @@ use Rattle.refusal.specs.Checks.{unless, firstOf, whenAccepted}
 use Rattle.refusal.specs.declared.Rule.the-variants.{SplitQuantity}
 use Rattle.refusal.specs.declared.Verdict.{Verdict}
 use Rattle.refusal.specs.declared.Verdict.the-variants.{Accepted, Refused}
-use Rattle.supply.specs.Supply.{supplyOf, offers}
+use Rattle.supply.specs.Supply.{supplyOf, suppliesOf, offers}
 use Rattle.supply.specs.Allocation.{total, costOf}
 use Rattle.split.specs.declared.SplitPrice.{SplitPrice}
 
@@ -30,7 +30,7 @@ splitVerdict b rs = firstOf (bookVerdict b ∷ quantitiesVerdict 2 (b .bids) rs 
 unfoldable pub splitOf : BookEntries → List ℕ → SplitPrice
 splitOf b rs = record {
   verdict = splitVerdict b rs;
-  price = record { 0 = whenAccepted (splitVerdict b rs) (costOf (b .bids) rs) (pos 0) };
+  price = record { 0 = whenAccepted (splitVerdict b rs) (costOf (suppliesOf (b .bids)) rs) (pos 0) };
   meets = whenAccepted (splitVerdict b rs) (eqb (total rs) (b .demand)) false;
 }
 

@@ -1,2 +1,3 @@
 pub mod Offers
 pub mod OneSegment
+pub mod Numbers

@@ -2,16 +2,16 @@
 use Prim.Native.Nat.{ℕ, _+_}
 use mathlib.Core.List.{List, [], _∷_}
 use lib.IntN.{ℤ, pos, _+ℤ_}
-use Rattle.book.specs.Entries.{BidEntries}
-use Rattle.supply.specs.Supply.{supplyOf, priceAt}
+use Rattle.book.specs.declared.Segment.{Segment}
+use Rattle.supply.specs.Supply.{priceAt}
 
 -- how many blanks it gives in all
 unfoldable pub total : List ℕ → ℕ
 total [] = 0
 total (r ∷ rs) = r + total rs
 
--- its price is the sum of the bidders' prices; it is used only where there is a quantity for each bid
-unfoldable pub costOf : List BidEntries → List ℕ → ℤ
+-- its price is the sum of the bidders' prices by their supply functions; it is used only where there is a quantity for each
+unfoldable pub costOf : List (List Segment) → List ℕ → ℤ
 costOf [] rs = pos 0
-costOf (b ∷ bs) [] = pos 0
-costOf (b ∷ bs) (r ∷ rs) = priceAt (supplyOf b) r +ℤ costOf bs rs
+costOf (ss ∷ supplies) [] = pos 0
+costOf (ss ∷ supplies) (r ∷ rs) = priceAt ss r +ℤ costOf supplies rs

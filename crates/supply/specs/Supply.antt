@@ -1,7 +1,8 @@
 -- A bid's supply function: document 000, section 3, and document 01, section "Price and allocation".
-use Prim.Native.Nat.{ℕ}
-use mathlib.Core.Bool.{Bool, false, cond, _||_}
-use mathlib.Core.List.{List, [], _∷_}
+use Prim.Native.Nat.{ℕ, _+_}
+use mathlib.Core.Bool.{Bool, false, cond, _&&_, _||_}
+use mathlib.Core.List.{List, [], _∷_, map}
+use lib.Dec.{ltb}
 use lib.IntN.{ℤ, pos}
 use Rattle.book.specs.declared.Segment.{Segment}
 use Rattle.book.specs.Entries.{BidEntries}
@@ -16,6 +17,10 @@ segment0 = record { start = record { 0 = 0 }; end = record { 0 = 0 }; unit = rec
 -- a bid's supply function: segment 0, and then the bid's segments
 abbrev pub supplyOf : BidEntries → List Segment
 supplyOf b = segment0 ∷ b .segments
+
+-- the supply functions of bids, in book order
+abbrev pub suppliesOf : List BidEntries → List (List Segment)
+suppliesOf bids = map supplyOf bids
 
 -- a quantity is on a segment from its start to its end, both counted
 unfoldable pub on : Segment → ℕ → Bool
@@ -34,3 +39,21 @@ priceAt (s ∷ ss) r = cond (on s r) (priceOn s r) (priceAt ss r)
 -- the price where the quantity is offered
 unfoldable pub offerOf : List Segment → ℕ → Offer
 offerOf ss r = cond (offers ss r) (Price (record { 0 = priceAt ss r })) NotOffered
+
+-- the number of the segment that r is on, the first of the list having the number n; where r is on none, which no award has, 0 stands
+unfoldable pub numberFrom : ℕ → List Segment → ℕ → ℕ
+numberFrom n [] r = 0
+numberFrom n (s ∷ ss) r = cond (on s r) n (numberFrom (n + 1) ss r)
+
+-- of a supply function, whose segments are numbered from 0
+unfoldable pub segmentNumber : List Segment → ℕ → ℕ
+segmentNumber ss r = numberFrom 0 ss r
+
+-- a quantity stands strictly inside a segment when above its start and below its end
+unfoldable pub inside : Segment → ℕ → Bool
+inside s r = ltb (s .start .0) r && ltb r (s .end .0)
+
+-- a bidder stands strictly inside one of its segments
+unfoldable pub standsInside : List Segment → ℕ → Bool
+standsInside [] r = false
+standsInside (s ∷ ss) r = inside s r || standsInside ss r

@@ -2,14 +2,16 @@
 ghost use mathlib.Core.Path.{_≡_};
 ghost use mathlib.Core.Bool.{true};
 ghost use Prim.Native.Nat.{_≤_};
+ghost use lib.ListN.{getD};
 ghost use Rattle.lists.specs.Every.{every};
 ghost use Rattle.book.specs.Entries.{bidEntries};
 ghost use Rattle.book.specs.Rules.{segmentInRange};
-ghost use Rattle.supply.specs.Supply.{on, supplyOf, offerOf};
+ghost use Rattle.supply.specs.Supply.{on, segment0, supplyOf, offerOf, segmentNumber};
 use book::Bid;
 use book::Segment;
 use money::Blanks;
 use money::Cents;
+use money::CentsPerBlank;
 
 // The price at which a bid offers a quantity, or that it does not offer it.
 pub enum Offer {
@@ -49,4 +51,41 @@ pub fn price_at(bid: Bid, quantity: Blanks) -> Offer
         i += 1;
     }
     Offer::NotOffered
+}
+
+// The segment of a bid's supply function with this number; segment 0 is nothing at price 0. It is pub
+// for the search, which goes through them.
+pub fn segment_of(bid: Bid, number: usize) -> Segment
+    requires { ⌜ bid .count ≤ 6 ⌝ }
+    requires { ⌜ number ≤ bid .count ⌝ }
+    ensures { λ r. ⌜ r ≡ getD (supplyOf (bidEntries bid)) number segment0 ⌝ }
+{
+    if number == 0 {
+        return Segment {
+            start: Blanks(0),
+            end: Blanks(0),
+            unit: CentsPerBlank(0),
+            fixed: Cents(0),
+        };
+    }
+    bid.segments[number - 1]
+}
+
+// The number of the segment that a quantity is on. It is pub for the rows of an award.
+pub fn segment_number(bid: Bid, quantity: Blanks) -> u64
+    requires { ⌜ bid .count ≤ 6 ⌝ }
+    ensures { λ r. ⌜ r ≡ segmentNumber (supplyOf (bidEntries bid)) (quantity .0) ⌝ }
+{
+    if quantity.0 == 0 {
+        return 0;
+    }
+    let mut i: usize = 0;
+    while i < bid.count {
+        let s = bid.segments[i];
+        if on_segment(s, quantity) {
+            return i as u64 + 1;
+        }
+        i += 1;
+    }
+    0
 }

@@ -1,0 +1,64 @@
+-- What clearing gives for every book: document 01, sections "Price and allocation", "The sheet" and "What is turned down".
+use Prim.Native.Nat.{ℕ, suc, _-_}
+use mathlib.Core.List.{List, [], _∷_, _++_}
+use mathlib.Core.Option.{Option, some, none}
+use lib.ListN.{take, drop}
+use Rattle.lists.specs.Padded.{padded}
+use Rattle.refusal.specs.Checks.{whenAccepted}
+use Rattle.refusal.specs.declared.Rule.the-variants.{NotCovered}
+use Rattle.refusal.specs.declared.Verdict.{Verdict}
+use Rattle.refusal.specs.declared.Verdict.the-variants.{Accepted, Refused}
+use Rattle.book.specs.Entries.{BidEntries, BookEntries}
+use Rattle.book.specs.Rules.{bookVerdict}
+use Rattle.supply.specs.Supply.{suppliesOf}
+use Rattle.divisions.specs.Award.{Priced, awardOf}
+use Rattle.award.specs.declared.Total.{Total}
+use Rattle.award.specs.declared.Total.the-variants.{Amount, Nothing}
+use Rattle.award.specs.declared.Row.{Row}
+use Rattle.award.specs.declared.Award.{Award}
+use Rattle.award.specs.Award.{noRow, noAward, rowOf}
+use Rattle.clearing.specs.declared.Clearing.{Clearing}
+
+-- the award of a book's bids, if they have a division
+unfoldable pub awardOfBook : BookEntries → Option Priced
+awardOfBook b = awardOf (b .demand) (suppliesOf (b .bids))
+
+-- the book less the bid with index i, the rest as it is
+unfoldable pub bookWithout : ℕ → BookEntries → BookEntries
+bookWithout i b = record { demand = b .demand; count = b .count - 1; bids = take i (b .bids) ++ drop (suc i) (b .bids) }
+
+-- the price of the award, or `none` where there is none
+abbrev pub totalOf : Option Priced → Total
+totalOf none = Nothing
+totalOf (some award) = Amount (record { 0 = award .cost })
+
+-- the total that clearing would give if the bidder with index i alone had not bid
+unfoldable pub totalWithout : BookEntries → ℕ → Total
+totalWithout b i = totalOf (awardOfBook (bookWithout i b))
+
+-- a row for each bid from index i on, with its quantity
+unfoldable pub rowsFrom : BookEntries → ℕ → List BidEntries → List ℕ → List Row
+rowsFrom b i [] rs = []
+rowsFrom b i (bid ∷ bids) [] = []
+rowsFrom b i (bid ∷ bids) (r ∷ rs) = rowOf bid r (totalWithout b i) ∷ rowsFrom b (suc i) bids rs
+
+-- demand, total price, and the rows, in book order; rows past the bids hold zeros and `none`
+unfoldable pub awardRecord : BookEntries → Priced → Award
+awardRecord b award = record {
+  demand = record { 0 = b .demand };
+  total = record { 0 = award .cost };
+  count = b .count;
+  rows = padded 8 noRow (rowsFrom b 0 (b .bids) (award .quantities));
+}
+
+abbrev pub refusedClearing : Verdict → Clearing
+refusedClearing verdict = record { verdict = verdict; award = noAward }
+
+-- of a book that rules 3 to 8 accept: 9 with place 0 where there is no division
+unfoldable pub clearedBook : BookEntries → Option Priced → Clearing
+clearedBook b none = refusedClearing (Refused NotCovered 0)
+clearedBook b (some award) = record { verdict = Accepted; award = awardRecord b award }
+
+-- of every book
+unfoldable pub clearOf : BookEntries → Clearing
+clearOf b = whenAccepted (bookVerdict b) (clearedBook b (awardOfBook b)) (refusedClearing (bookVerdict b))

@@ -1,0 +1,112 @@
+// Clearing a tender: the award of a bid book.
+ghost use mathlib.Core.Path.{_≡_};
+ghost use Prim.Native.Nat.{_≤_, _<_};
+ghost use lib.ListN.{take};
+ghost use Rattle.lists.specs.Padded.{padded};
+ghost use Rattle.refusal.specs.declared.Verdict.the-variants.{Accepted};
+ghost use Rattle.book.specs.Entries.{bookEntries};
+ghost use Rattle.book.specs.Rules.{bookVerdict};
+ghost use Rattle.filling.specs.Records.{blanksIn};
+ghost use Rattle.award.specs.Award.{noRow};
+ghost use Rattle.clearing.specs.Clearing.{bookWithout, totalWithout, rowsFrom, refusedClearing, clearOf};
+use award::Award;
+use award::Row;
+use award::Total;
+use book::Book;
+use money::Blanks;
+use refusal::Rule;
+use refusal::Verdict;
+
+// The award of a book, or zeros and `Nothing` beside a refusal.
+pub struct Clearing {
+    pub verdict: Verdict,
+    pub award: Award,
+}
+
+fn refused(verdict: Verdict) -> Clearing
+    ensures { λ r. ⌜ r ≡ refusedClearing verdict ⌝ }
+{
+    let award = award::no_award();
+    Clearing { verdict, award }
+}
+
+// The book less the bid with this index.
+fn without(book: Book, at: usize) -> Book
+    requires { ⌜ (at < book .count) × (book .count ≤ 8) ⌝ }
+    ensures { λ r. ⌜ bookEntries r ≡ bookWithout at (bookEntries book) ⌝ }
+{
+    let count = book.count - 1;
+    let mut left = book;
+    left.count = count;
+    let mut i = at;
+    while i < count {
+        let bid = book.bids[i + 1];
+        left.bids[i] = bid;
+        i += 1;
+    }
+    left
+}
+
+// The total that clearing gives for the bids left: `Nothing` only where they have no division.
+fn total_without(book: Book, at: usize) -> Total
+    requires { ⌜ bookVerdict (bookEntries book) ≡ Accepted ⌝ }
+    requires { ⌜ at < book .count ⌝ }
+    ensures { λ r. ⌜ r ≡ totalWithout (bookEntries book) at ⌝ }
+{
+    let left = without(book, at);
+    let best = search::best_division(left);
+    if !best.found {
+        return Total::Nothing;
+    }
+    let total = best.total;
+    Total::Amount(total)
+}
+
+// A row for each bid.
+fn rows(book: Book, quantities: [Blanks; 8]) -> [Row; 8]
+    requires { ⌜ bookVerdict (bookEntries book) ≡ Accepted ⌝ }
+    ensures { λ r. ⌜ r ≡ padded 8 noRow (rowsFrom (bookEntries book) 0 (bookEntries book .bids) (take (book .count) (blanksIn quantities))) ⌝ }
+{
+    let blank = award::no_row();
+    let mut rows = [blank; 8];
+    let mut i: usize = 0;
+    while i < book.count {
+        let bid = book.bids[i];
+        let quantity = quantities[i];
+        let total = total_without(book, i);
+        let row = award::row_of(bid, quantity, total);
+        rows[i] = row;
+        i += 1;
+    }
+    rows
+}
+
+// Clears any record: refused by rules 3 to 8 as `book::check` refuses it, by rule 9 where its bids
+// have no division, and else awarded.
+pub fn clear(book: Book) -> Clearing
+    ensures { λ r. ⌜ r ≡ clearOf (bookEntries book) ⌝ }
+{
+    let verdict = book::check(book);
+    if let Verdict::Refused(_, _) = verdict {
+        return refused(verdict);
+    }
+    let best = search::best_division(book);
+    if !best.found {
+        return refused(Verdict::Refused(Rule::NotCovered, 0));
+    }
+    let quantities = best.quantities;
+    let demand = book.demand;
+    let total = best.total;
+    let count = book.count;
+    let rows = rows(book, quantities);
+    let award = Award {
+        demand,
+        total,
+        count,
+        rows,
+    };
+    Clearing {
+        verdict: Verdict::Accepted,
+        award,
+    }
+}

@@ -1,0 +1,43 @@
+-- The award: the best of all divisions. Nothing here depends on how it is found.
+use Prim.Native.Nat.{ℕ}
+use mathlib.Core.Bool.{Bool, true, false, cond, _&&_, _||_}
+use mathlib.Core.List.{List, [], _∷_, map}
+use mathlib.Core.Option.{Option, some, none}
+use lib.Dec.{eqb, ltb}
+use lib.IntN.{ℤ}
+use lib.Signed.{ltZ, leZ}
+use Rattle.book.specs.declared.Segment.{Segment}
+use Rattle.supply.specs.Allocation.{costOf}
+use Rattle.divisions.specs.Listing.{divisions}
+
+-- quantities, and what they cost in all
+pub record Priced : Type 0 where
+  pub cost : ℤ
+  pub quantities : List ℕ
+
+abbrev pub priced : List (List Segment) → List ℕ → Priced
+priced supplies rs = record { cost = costOf supplies rs; quantities = rs }
+
+-- xs gives more than ys to the first bidder at whom the two differ
+unfoldable pub givesMore : List ℕ → List ℕ → Bool
+givesMore [] ys = false
+givesMore (x ∷ xs) [] = true
+givesMore (x ∷ xs) (y ∷ ys) = ltb y x || (eqb x y && givesMore xs ys)
+
+-- it costs less; or it costs no more, and gives more to the first bidder at whom the two differ
+unfoldable pub better : Priced → Priced → Bool
+better a b = ltZ (a .cost) (b .cost) || (leZ (a .cost) (b .cost) && givesMore (a .quantities) (b .quantities))
+
+-- the better of the best so far and another
+unfoldable pub pick : Option Priced → Priced → Option Priced
+pick none d = some d
+pick (some best) d = some (cond (better d best) d best)
+
+-- the best of a list
+unfoldable pub bestOf : List Priced → Option Priced
+bestOf [] = none
+bestOf (d ∷ ds) = pick (bestOf ds) d
+
+-- the best of all divisions, or none where there is no division
+unfoldable pub awardOf : ℕ → List (List Segment) → Option Priced
+awardOf demand supplies = bestOf (map (priced supplies) (divisions demand supplies))

@@ -1,0 +1,36 @@
+-- Demand 3's words for the award, of which divisions/proofs/Award.antt proves that they fix it.
+use Prim.Native.Nat.{ℕ, _+_, _<_}
+use mathlib.Core.Bool.{cond}
+use mathlib.Core.List.{List, [], _∷_}
+use mathlib.Core.Logic.{_⊎_}
+use mathlib.Core.Path.{_≡_}
+use lib.ListN.{take, getD}
+use lib.Signed.{_<ℤ_}
+use Rattle.book.specs.declared.Segment.{Segment}
+use Rattle.supply.specs.Supply.{standsInside}
+use Rattle.supply.specs.Allocation.{costOf}
+use Rattle.divisions.specs.Award.{Priced}
+use Rattle.divisions.specs.Division.{Division}
+
+-- rs gives less than xs to the first bidder at whom the two differ
+pub record GivesLess (rs xs : List ℕ) : Type 0 where
+  pub bidder : ℕ
+  pub same-before : take bidder rs ≡ take bidder xs
+  pub less : getD rs bidder 0 < getD xs bidder 0
+
+-- rs costs more than the award; or it costs the same, and gives less to the first bidder at whom the two differ
+abbrev pub Worse : List (List Segment) → List ℕ → Priced → Type 0
+Worse supplies rs award =
+    (award .cost <ℤ costOf supplies rs) ⊎ ((costOf supplies rs ≡ award .cost) × GivesLess rs (award .quantities))
+
+-- the award is a division, at its cost, and every other division is worse
+pub record IsAward (demand : ℕ) (supplies : List (List Segment)) (award : Priced) : Type 0 where
+  pub division : Division demand supplies (award .quantities)
+  pub cost : award .cost ≡ costOf supplies (award .quantities)
+  pub others : (rs : List ℕ) → Division demand supplies rs → (rs ≡ award .quantities) ⊎ Worse supplies rs award
+
+-- how many bidders stand strictly inside one of their segments
+unfoldable pub insideCount : List (List Segment) → List ℕ → ℕ
+insideCount [] rs = 0
+insideCount (ss ∷ supplies) [] = 0
+insideCount (ss ∷ supplies) (r ∷ rs) = cond (standsInside ss r) 1 0 + insideCount supplies rs
