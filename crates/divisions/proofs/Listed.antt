@@ -50,9 +50,9 @@ in-allocation most (ss ∷ supplies) rs h =
 pub listed-iff : (demand : ℕ) (supplies : List (List Segment)) (rs : List ℕ) → In rs (divisions demand supplies) ↔ Division demand supplies rs
 unfolding divisions
 listed-iff demand supplies rs = (
-    λ h. let (m, e) = those-in (λ (qs : List ℕ). eqb (total qs) demand) (allocations demand supplies) rs h in
-        record { allocation = in-allocation demand supplies rs m; meets = eqb-true (total rs) demand e },
-    λ d. in-those (λ (qs : List ℕ). eqb (total qs) demand) (allocations demand supplies) rs
-        (allocation-in demand supplies rs (d .allocation) (at-most demand rs (omega (arith, d .meets))))
-        (eq-eqb (total rs) demand (d .meets)),
-  )
+  λ h. let (m, e) = those-in (λ (qs : List ℕ). eqb (total qs) demand) (allocations demand supplies) rs h in
+      record { allocation = in-allocation demand supplies rs m; meets = eqb-true (total rs) demand e },
+  λ d. in-those (λ (qs : List ℕ). eqb (total qs) demand) (allocations demand supplies) rs
+      (allocation-in demand supplies rs (d .allocation) (at-most demand rs (omega (arith, d .meets))))
+      (eq-eqb (total rs) demand (d .meets)),
+)

@@ -2,7 +2,7 @@
 use Prim.Native.Nat.{ℕ, _<_}
 use native.Mathlib.Decide.{decLt}
 use native.Mathlib.Omega.{arith}
-use mathlib.Core.Bool.{true, false, false≢true}
+use mathlib.Core.Bool.{Bool, true, false, false≢true}
 use mathlib.Core.Logic.{_⊎_, inl, inr, ⊎-elim}
 use mathlib.Core.Path.{_≡_, refl, sym, ap, subst}
 use borrow.Author.Tests.{ltb-true, leb-true, lt-ltb, le-leb}
@@ -54,3 +54,9 @@ at-most-cases (negsuc a) (negsuc b) h = ⊎-elim (λ k. absurd (omega (arith, le
 -- as the library states the order
 pub less : (a b : ℤ) → ltZ a b ≡ true → a <ℤ b
 less a b e = record { lt = subst T (sym e) tt }
+
+pub less-test : (a b : ℤ) → a <ℤ b → ltZ a b ≡ true
+less-test a b h = go (ltZ a b) (h .lt)
+  where
+    go : (t : Bool) → T t → t ≡ true
+    go true h = refl
