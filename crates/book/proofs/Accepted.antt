@@ -9,7 +9,9 @@ use borrow.Author.Tests.{leb-true, ltb-true}
 use lib.Dec.{leb, ltb}
 use lib.ListN.{length, getD, take, length-map, List·getD-map}
 use lib.Seq.{getD-take, length-take-le}
+use Rattle.lists.specs.All.{All}
 use Rattle.lists.specs.Every.{every}
+use Rattle.lists.proofs.All.{all-indexed}
 use Rattle.lists.proofs.Tests.{both-left, both-right}
 use Rattle.lists.proofs.Everywhere.{every-within}
 use Rattle.refusal.specs.Checks.{unless}
@@ -109,6 +111,10 @@ pub bids-accepted : (line before : ℕ) (bs : List BidEntries) (d : BidEntries) 
 bids-accepted line before [] d e i h = absurd (not-suc-le-zero h)
 bids-accepted line before (b ∷ bs) d e zero h = first-line line before b bs e .bid
 bids-accepted line before (b ∷ bs) d e (suc i) h = bids-accepted (line + 1) (b .bidder) bs d (later-lines line before b bs e) i (le-of-suc-le-suc h)
+
+pub all-accepted : (b : BookEntries) → bookVerdict b ≡ Accepted → All AcceptedBid (b .bids)
+all-accepted b accepted =
+    all-indexed AcceptedBid (bidEntries noBid) (b .bids) (bids-accepted 2 0 (b .bids) (bidEntries noBid) (book-accepted b accepted .bids))
 
 -- the bidders rise strictly
 pub bidders-rise : (line before : ℕ) (bs : List BidEntries) (d : BidEntries) → bidsVerdict line before bs ≡ Accepted → (i : ℕ)

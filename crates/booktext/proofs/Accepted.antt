@@ -12,13 +12,12 @@ use Rattle.book.specs.declared.Bid.{Bid}
 use Rattle.book.specs.declared.Book.{Book}
 use Rattle.book.specs.Entries.{bidEntries, bookEntries, SameBook}
 use Rattle.book.specs.Rules.{segmentInRange, bookVerdict}
-use Rattle.book.proofs.Accepted.{AcceptedBid, book-accepted}
+use Rattle.book.proofs.Accepted.{AcceptedBid, book-accepted, all-accepted}
 use Rattle.book.proofs.InRange.{in-range}
 use Rattle.forms.proofs.Digits.{few-digits}
 use Rattle.booktext.specs.Arrays.{SixSegments, Arrays}
 use Rattle.booktext.specs.WellFormed.{WellFormedSegment, WellFormedBid, WellFormedBook}
 use Rattle.booktext.specs.Record.{bookRecord}
-use Rattle.booktext.proofs.Bids.{all-accepted}
 use Rattle.booktext.proofs.Records.{FewSegments, entries-back}
 
 well-formed-segment : (s : Segment) → segmentInRange s ≡ true → WellFormedSegment s

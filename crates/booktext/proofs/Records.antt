@@ -10,11 +10,10 @@ use Rattle.refusal.specs.declared.Verdict.the-variants.{Accepted}
 use Rattle.book.specs.declared.Segment.{Segment}
 use Rattle.book.specs.Entries.{BidEntries, BookEntries, bidEntries, bookEntries}
 use Rattle.book.specs.Rules.{bookVerdict}
-use Rattle.book.proofs.Accepted.{AcceptedBid, book-accepted}
+use Rattle.book.proofs.Accepted.{AcceptedBid, book-accepted, all-accepted}
 use Rattle.booktext.specs.Arrays.{SixSegments, Arrays}
 use Rattle.booktext.specs.WellFormed.{WellFormedBid, WellFormedBook}
 use Rattle.booktext.specs.Record.{emptySegment, emptyBid, bidRecord, bookRecord}
-use Rattle.booktext.proofs.Bids.{all-accepted}
 
 -- a bid for which a record has room
 abbrev pub FewSegments : BidEntries → Type 0

@@ -17,11 +17,10 @@ use Rattle.book.specs.declared.Segment.{Segment}
 use Rattle.book.specs.Entries.{BidEntries, BookEntries}
 use Rattle.book.specs.Rules.{segmentInRange, bookVerdict}
 use Rattle.book.specs.Room.{roomOfBids}
-use Rattle.book.proofs.Accepted.{AcceptedBid, book-accepted}
+use Rattle.book.proofs.Accepted.{AcceptedBid, book-accepted, all-accepted}
 use Rattle.book.proofs.InRange.{in-range}
 use Rattle.booktext.specs.BookText.{segmentText, bidText, bookText}
 use Rattle.booktext.specs.WellFormed.{WellFormedBid, WellFormedBook}
-use Rattle.booktext.proofs.Bids.{all-accepted}
 
 seven : (n : ℕ) → n ≤ 1000000 → length (digits n) ≤ 7
 seven n h = length-below 6 n (omega arith)

@@ -48,7 +48,7 @@ module _ (demand : ℕ) (supplies : List (List Segment)) where
   )
 
 -- a division has a quantity for each bidder
-as-many : (supplies : List (List Segment)) (rs : List ℕ) → Allocation supplies rs → length rs ≡ length supplies
+pub as-many : (supplies : List (List Segment)) (rs : List ℕ) → Allocation supplies rs → length rs ≡ length supplies
 as-many [] [] a = refl
 as-many (ss ∷ supplies) (r ∷ rs) a = ap suc (as-many supplies rs (a .1))
 

@@ -79,13 +79,13 @@ pub fn segment_number(bid: Bid, quantity: Blanks) -> u64
     if quantity.0 == 0 {
         return 0;
     }
-    let mut i: usize = 0;
-    while i < bid.count {
-        let s = bid.segments[i];
+    let mut j: usize = 0;
+    while j < bid.count {
+        let s = bid.segments[j];
         if on_segment(s, quantity) {
-            return i as u64 + 1;
+            return j as u64 + 1;
         }
-        i += 1;
+        j += 1;
     }
     0
 }

@@ -12,11 +12,11 @@ use Rattle.supply.proofs.segment_number.Statement.{statement}
 use Rattle.supply.proofs.segment_number.Tie as tie
 
 abbrev Inv-loop : tie.InvT-loop
-Inv-loop quantity bid i₀ i =
-    (i ≤ bid .count) × (segmentNumber (supplyOf (bidEntries bid)) (quantity .0) ≡ numberFrom (i + 1) (slice i (bid .count) (bid .segments)) (quantity .0))
+Inv-loop quantity bid j₀ j =
+    (j ≤ bid .count) × (segmentNumber (supplyOf (bidEntries bid)) (quantity .0) ≡ numberFrom (j + 1) (slice j (bid .count) (bid .segments)) (quantity .0))
 
 abbrev μ-loop : tie.MeasureT-loop
-μ-loop quantity bid i₀ i = bid .count - i
+μ-loop quantity bid j₀ j = bid .count - j
 
 held : (c : tie.In-loop Inv-loop μ-loop) → let b = c .before .before .before .before .args .t1 in b .count ≤ length (b .segments)
 held c =
@@ -50,10 +50,10 @@ returns-2 c =
     let a = l .before .before .before .before .args in
     let at = l .before .loop in
     let there = sym (c .before .on-segment .ensures) ∙ c .if2 .taken in
-    sym (at .inv .1 ∙ number-stop (a .quantity .0) (a .t1 .segments) (at .i) (a .t1 .count) (l .loop-test .taken) (held l) (at .i + 1) there)
+    sym (at .jnv .1 ∙ number-stop (a .quantity .0) (a .t1 .segments) (at .j) (a .t1 .count) (l .loop-test .taken) (held l) (at .j + 1) there)
 
-add-i : tie.Need-add-i Inv-loop μ-loop
-add-i c = search needs
+add-j : tie.Need-add-j Inv-loop μ-loop
+add-j c = search needs
 
 loop-less : tie.Need-loop-less Inv-loop μ-loop
 loop-less c = search needs
@@ -65,14 +65,14 @@ loop-again c =
     let at = l .before .loop in
     let off = sym (c .before .on-segment .ensures) ∙ c .if2 .left in (
       omega arith,
-      at .inv .1 ∙ number-next (a .quantity .0) (a .t1 .segments) (at .i) (a .t1 .count) (l .loop-test .taken) (held l) (at .i + 1) off,
+      at .jnv .1 ∙ number-next (a .quantity .0) (a .t1 .segments) (at .j) (a .t1 .count) (l .loop-test .taken) (held l) (at .j + 1) off,
     )
 
 returns-3 : tie.Need-returns-3 Inv-loop μ-loop
 returns-3 c =
     let a = c .before .before .before .before .args in
     let at = c .before .loop in
-    sym (at .inv .1 ∙ number-done (at .i + 1) (a .quantity .0) (a .t1 .segments) (at .i) (a .t1 .count) (at .inv .0) (c .loop-test .left))
+    sym (at .jnv .1 ∙ number-done (at .j + 1) (a .quantity .0) (a .t1 .segments) (at .j) (a .t1 .count) (at .jnv .0) (c .loop-test .left))
 
 pub segment-number-spec : {M : Type 1} → statement M
 segment-number-spec =
@@ -87,7 +87,7 @@ segment-number-spec =
     on-segment-requires
     add-result
     returns-2
-    add-i
+    add-j
     loop-less
     loop-again
     returns-3)
