@@ -4,3 +4,4 @@ pub mod Sound
 pub mod Fill
 pub mod Certificate
 pub mod Optimal
+pub mod Accepted
