@@ -1,7 +1,7 @@
 -- The supply function of an accepted bid is sound. Assumes nothing.
 use Prim.Native.Nat.{ℕ, _≤_, _<_}
 use native.Mathlib.Omega.{arith}
-use mathlib.Core.Bool.{Bool, true, false, _&&_, _||_, and-false}
+use mathlib.Core.Bool.{true, false, _&&_, and-false, or-false}
 use mathlib.Core.List.{List, [], _∷_, List·Memᴰ as In, List·Memᴰ·head as here, List·Memᴰ·tail as there, List·Memᴰ·not-nil}
 use mathlib.Core.Path.{_≡_, refl}
 use borrow.Author.Tests.{leb-true, ltb-true, le-ltb, lt-leb}
@@ -110,11 +110,7 @@ inside-there : (t : Segment) (ts : List Segment) (s : Segment) (r : ℕ) → seg
 unfolding standsInside
 inside-there t ts s r e (here p) o =
     let o′ : on t r ≡ true = rw p at o in
-    rw (none-later (t .end .0) ts r e (on-high t r o′), p) (or-none (inside t r))
-  where
-    or-none : (a : Bool) → a || false ≡ a
-    or-none true = refl
-    or-none false = refl
+    rw (none-later (t .end .0) ts r e (on-high t r o′), p) (or-false (inside t r))
 inside-there t [] s r e (there m) o = absurd (List·Memᴰ·not-nil m)
 inside-there t (u ∷ us) s r e (there m) o =
     rw (out-above t r (beyond (t .end .0) (u ∷ us) s r e m o)) (inside-there u us s r (step (t .end .0) u us e .rest) m o)

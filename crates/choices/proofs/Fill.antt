@@ -1,6 +1,5 @@
 -- The shares of a choice are a point of its box, and add up to what there is to give. Assumes nothing.
 use Prim.Native.Nat.{ℕ, _+_, _*_, _-_, _≤_, _<_}
-use native.Mathlib.Decide.{decLt}
 use native.Mathlib.Omega.{arith}
 use mathlib.Core.Bool.{Bool, true, false, cond}
 use mathlib.Core.List.{List, [], _∷_}
@@ -45,15 +44,6 @@ Less (y ∷ ys) (x ∷ xs) = Less ys xs ⊎ ((ys ≡ xs) × (y < x))
 -- xs costs less than ys; or it costs the same, and is ys or gives more to the first bidder at whom the two differ
 abbrev pub Wins : List Segment → List ℕ → List ℕ → Type 0
 Wins c xs ys = (cost c xs < cost c ys) ⊎ ((cost c xs ≡ cost c ys) × ((ys ≡ xs) ⊎ Less ys xs))
-
--- two numbers compared
-unfoldable pub order : (a b : ℕ) → (a < b) ⊎ ((a ≡ b) ⊎ (b < a))
-order a b = go (decLt a b) (decLt b a)
-  where
-    go : Dec (a < b) → Dec (b < a) → (a < b) ⊎ ((a ≡ b) ⊎ (b < a))
-    go (yes h) _ = inl h
-    go (no h) (yes k) = inr (inr k)
-    go (no h) (no k) = inr (inl (omega arith))
 
 -- how much of a segment counts at a unit price: all of it, or nothing
 abbrev pub Counts : ℕ → Segment → Type 0

@@ -5,3 +5,5 @@ pub mod Fill
 pub mod Certificate
 pub mod Optimal
 pub mod Accepted
+pub mod Placed
+pub mod Leaves

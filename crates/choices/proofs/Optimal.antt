@@ -8,8 +8,9 @@ use mathlib.Core.Logic.{_⊎_, inl, inr, ⊎-elim}
 use mathlib.Core.Path.{_≡_, refl, ap, ap₂}
 use Rattle.book.specs.declared.Segment.{Segment}
 use Rattle.supply.specs.Allocation.{total}
+use Rattle.divisions.proofs.Signed.{order}
 use Rattle.choices.proofs.Choice.{width}
-use Rattle.choices.proofs.Fill.{cost, Box, Less, Wins, order}
+use Rattle.choices.proofs.Fill.{cost, Box, Less, Wins}
 use Rattle.choices.proofs.Certificate.{Under, Open, Cert}
 
 under-up : (u v : ℕ) (c : List Segment) (xs : List ℕ) → u ≤ v → Under u c xs → Under v c xs
