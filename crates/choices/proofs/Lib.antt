@@ -7,3 +7,4 @@ pub mod Optimal
 pub mod Accepted
 pub mod Placed
 pub mod Leaves
+pub mod Chosen
