@@ -1,23 +1,22 @@
--- What the search ends as is a division with at most one bidder strictly inside, and for each division there is one at least as good. Assumes nothing.
-use Prim.Native.Nat.{ℕ, _+_, _*_, _-_, _≤_}
+-- Complete choices that fit and divisions: each such choice gives a division, and for each division one gives one at least as good. Assumes nothing.
+use Prim.Native.Nat.{ℕ, _+_, _-_, _≤_}
 use native.Mathlib.Omega.{arith}
-use mathlib.Core.Bool.{true, cond}
+use mathlib.Core.Bool.{true}
 use mathlib.Core.List.{List, [], _∷_, reverseAux, reverse, List·Memᴰ as In}
-use mathlib.Core.Logic.{_⊎_, inl, inr}
+use mathlib.Core.Logic.{inl, inr}
 use mathlib.Core.Path.{_≡_, refl, ap, _∙_, subst}
 use borrow.Author.Tests.{lt-ltb}
-use lib.IntN.{ℤ, pos}
+use lib.IntN.{pos}
 use Rattle.lists.specs.All.{All}
 use Rattle.lists.proofs.Members.{all-in}
 use Rattle.book.specs.declared.Segment.{Segment}
-use Rattle.supply.specs.Supply.{inside}
 use Rattle.supply.specs.Allocation.{total}
-use Rattle.divisions.specs.Award.{Priced, better}
+use Rattle.divisions.specs.Award.{Priced}
 use Rattle.divisions.proofs.Order.{better-cost, better-tie}
 use Rattle.divisions.proofs.Best.{NotBetter}
-use Rattle.choices.proofs.Choice.{starts, ends, fits, width, placed, sharesOf, filled}
+use Rattle.choices.proofs.Choice.{starts, fits, placed, sharesOf, filled}
 use Rattle.choices.proofs.Sound.{SoundSegment, SoundSupply}
-use Rattle.choices.proofs.Fill.{base, room, cost, Box, Wins, shares-total, shares-box, box-room}
+use Rattle.choices.proofs.Fill.{cost, Box, Wins, shares-total, shares-box, box-room}
 use Rattle.choices.proofs.Certificate.{shares-cert, insides, one-inside}
 use Rattle.choices.proofs.Optimal.{cert-wins}
 use Rattle.choices.proofs.Placed.{cost-with, placed-total, ends-room, fits-low, fits-high, fits-when, placed-less, less-more}
@@ -28,6 +27,7 @@ use Rattle.choices.proofs.Chosen.{Chosen}
 abbrev pub together : List Segment → List ℕ → List Segment → List ℕ → Priced
 together c xs e ys = record { cost = pos (cost c xs + cost e ys); quantities = reverseAux (placed c xs) (placed e ys) }
 
+-- d is these quantities, which meet the demand with at most one bidder strictly inside
 pub record Divides (demand : ℕ) (supplies : List (List Segment)) (c : List Segment) (d : Priced) : Type 0 where
   pub shares : List ℕ
   pub later : List Segment
@@ -129,18 +129,18 @@ pub divides : (demand : ℕ) (supplies : List (List Segment)) (c : List Segment)
     → Leaf demand supplies c d → Divides demand supplies c d
 divides demand [] c d sound before (f, e) = rw e (leaf-divides demand c before f)
 divides demand (ss ∷ supplies) c d sound before (s, m, l) =
-    let here = all-in SoundSegment ss s (sound .0 .each) m in
-    divides-next demand supplies ss s c d m (divides demand supplies (s ∷ c) d (sound .1) (here, before) l)
+    let one = all-in SoundSegment ss s (sound .0 .each) m in
+    divides-next demand supplies ss s c d m (divides demand supplies (s ∷ c) d (sound .1) (one, before) l)
 
--- and one at least as good as these quantities
-pub topped : (demand : ℕ) (supplies : List (List Segment)) (c : List Segment) (xs : List ℕ) (e : List Segment) (ys : List ℕ)
+-- and some complete choice gives quantities at least as good as these
+pub as-good : (demand : ℕ) (supplies : List (List Segment)) (c : List Segment) (xs : List ℕ) (e : List Segment) (ys : List ℕ)
     → All SoundSupply supplies → All SoundSegment c → Box c xs → Chosen supplies e ys → total (placed c xs) + total (placed e ys) ≡ demand
     → (t : Priced) × Leaf demand supplies c t × NotBetter (together c xs e ys) t
 unfolding total
-topped demand [] c xs [] [] sound before b a t =
+as-good demand [] c xs [] [] sound before b a t =
     let all : total (placed c xs) ≡ demand = omega arith in
     (filled demand c, (leaf-fits demand c before xs b all, refl), leaf-better demand c before xs b all)
-topped demand (ss ∷ supplies) c xs (s ∷ e) (x ∷ ys) sound before b (m, w, a) t =
-    let here = all-in SoundSegment ss s (sound .0 .each) m in
-    let (d, l, n) = topped demand supplies (s ∷ c) (x ∷ xs) e ys (sound .1) (here, before) (w, b) a (omega arith) in
+as-good demand (ss ∷ supplies) c xs (s ∷ e) (x ∷ ys) sound before b (m, w, a) t =
+    let one = all-in SoundSegment ss s (sound .0 .each) m in
+    let (d, l, n) = as-good demand supplies (s ∷ c) (x ∷ xs) e ys (sound .1) (one, before) (w, b) a (omega arith) in
     (d, (s, m, l), subst (λ (p : Priced). NotBetter p d) (shift s x c xs e ys) n)

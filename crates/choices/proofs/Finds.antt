@@ -18,7 +18,7 @@ use Rattle.choices.proofs.Sound.{SoundSupply}
 use Rattle.choices.proofs.Fill.{cost}
 use Rattle.choices.proofs.Leaves.{Leaf, search-best}
 use Rattle.choices.proofs.Chosen.{Chosen, chosen-allocation, chosen-cost, allocation-chosen}
-use Rattle.choices.proofs.Divides.{together, divides, topped}
+use Rattle.choices.proofs.Divides.{together, divides, as-good}
 
 -- the best of all complete choices that fit
 pub found-best : (demand : ℕ) (supplies : List (List Segment)) → Best (Leaf demand supplies []) (searched demand supplies)
@@ -52,7 +52,7 @@ module _ (demand : ℕ) (supplies : List (List Segment)) (sound : All SoundSuppl
       let sum : total (placed e ys) ≡ demand = ap total (sym q) ∙ p .division .meets in
       let price : pos (0 + cost e ys) ≡ d .cost = chosen-priced e ys a ∙ ap (costOf supplies) (sym q) ∙ sym (p .cost) in
       let same : together [] [] e ys ≡ d = λ i. record { cost = price i; quantities = sym q i } in
-      let (t, l, n) = topped demand supplies [] [] e ys sound tt tt a (omega arith) in
+      let (t, l, n) = as-good demand supplies [] [] e ys sound tt tt a (omega arith) in
       (t, l, subst (λ (x : Priced). NotBetter x t) same n)
 
   pub finds : searched demand supplies ≡ awardOf demand supplies
