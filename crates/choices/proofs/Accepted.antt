@@ -1,11 +1,10 @@
 -- The supply function of an accepted bid is sound. Assumes nothing.
 use Prim.Native.Nat.{ℕ, _≤_, _<_}
 use native.Mathlib.Omega.{arith}
-use mathlib.Core.Bool.{true, false, _&&_, and-false, or-false}
+use mathlib.Core.Bool.{true, false, and-false, or-false}
 use mathlib.Core.List.{List, [], _∷_, List·Memᴰ as In, List·Memᴰ·head as here, List·Memᴰ·tail as there, List·Memᴰ·not-nil}
 use mathlib.Core.Path.{_≡_, refl}
-use borrow.Author.Tests.{leb-true, ltb-true, le-ltb, lt-leb}
-use lib.Dec.{leb, ltb}
+use borrow.Author.Tests.{le-ltb}
 use lib.ListN.{length, getD}
 use Rattle.lists.specs.All.{All}
 use Rattle.lists.specs.Every.{every}
@@ -15,9 +14,10 @@ use Rattle.money.specs.Price.{priceOf}
 use Rattle.book.specs.declared.Segment.{Segment}
 use Rattle.book.specs.Entries.{BidEntries}
 use Rattle.book.specs.Rules.{segmentInRange, segmentsRise, startNotNegative, priceOn}
-use Rattle.book.proofs.InRange.{InRange, in-range, within-low, within-high}
+use Rattle.book.proofs.InRange.{InRange, in-range}
 use Rattle.book.proofs.Accepted.{AcceptedBid}
 use Rattle.supply.specs.Supply.{segment0, supplyOf, suppliesOf, on, priceAt, inside, standsInside}
+use Rattle.supply.proofs.OneSegment.{on-low, on-high, off-above, step}
 use Rattle.choices.proofs.Sound.{SoundSegment, SoundSupply}
 
 -- Each segment.
@@ -25,24 +25,6 @@ use Rattle.choices.proofs.Sound.{SoundSegment, SoundSupply}
 nothing-sound : SoundSegment segment0
 unfolding priceOf
 nothing-sound = record { order = omega arith; end-high = omega arith; unit-high = omega arith; fixed-size = omega arith; not-negative = refl }
-
-record Step (before : ℕ) (s : Segment) (ss : List Segment) : Type 0 where
-  above : before < s .start .0
-  order : s .start .0 ≤ s .end .0
-  rest : segmentsRise (s .end .0) ss ≡ true
-
-step : (before : ℕ) (s : Segment) (ss : List Segment) → segmentsRise before (s ∷ ss) ≡ true → Step before s ss
-unfolding segmentsRise
-step before s ss e =
-    let a = ltb before (s .start .0) in
-    let o = leb (s .start .0) (s .end .0) in
-    let r = segmentsRise (s .end .0) ss in
-    let front = both-left (a && o) r e in
-    record {
-      above = ltb-true before (s .start .0) (both-left a o front);
-      order = leb-true (s .start .0) (s .end .0) (both-right a o front);
-      rest = both-right (a && o) r e;
-    }
 
 segment-sound : (s : Segment) → InRange s → s .start .0 ≤ s .end .0 → startNotNegative s ≡ true → SoundSegment s
 unfolding startNotNegative
@@ -61,18 +43,6 @@ segments-sound before (s ∷ ss) rises ranges starts =
     (segment-sound s (in-range s range) (t .order) start, segments-sound (s .end .0) ss (t .rest) later-ranges later-starts)
 
 -- Of segments that rise, one that a quantity is on.
-
-on-low : (s : Segment) (r : ℕ) → on s r ≡ true → s .start .0 ≤ r
-unfolding on
-on-low s r e = within-low (s .start .0) (s .end .0) r e
-
-on-high : (s : Segment) (r : ℕ) → on s r ≡ true → r ≤ s .end .0
-unfolding on
-on-high s r e = within-high (s .start .0) (s .end .0) r e
-
-off-above : (s : Segment) (r : ℕ) → s .end .0 < r → on s r ≡ false
-unfolding on
-off-above s r h = rw (lt-leb r (s .end .0) h, and-false)
 
 out-above : (s : Segment) (r : ℕ) → s .end .0 < r → inside s r ≡ false
 unfolding inside

@@ -1,12 +1,11 @@
 -- The quantities of a choice with shares of its box: what they add up to, what they cost, and which give more. Assumes nothing.
 use Prim.Native.Nat.{ℕ, _+_, _*_, _≤_, _<_}
-use native.Mathlib.Nat.{le-refl}
 use native.Mathlib.Omega.{arith}
 use mathlib.Core.Bool.{true, false≢true}
 use mathlib.Core.List.{List, [], _∷_, reverseAux}
 use mathlib.Core.Logic.{inl, inr}
 use mathlib.Core.Path.{_≡_, refl, ap, ap₂, _∙_}
-use borrow.Author.Tests.{leb-true, le-leb, lt-ltb, le-ltb, eq-eqb}
+use borrow.Author.Tests.{leb-true, le-leb}
 use lib.Dec.{leb}
 use lib.IntN.{ℤ, pos, negsuc, natAbs, _+ℤ_, +ℤ-assoc}
 use lib.Signed.{leZ}
@@ -17,6 +16,7 @@ use Rattle.book.specs.declared.Segment.{Segment}
 use Rattle.book.specs.Rules.{priceOn}
 use Rattle.supply.specs.Allocation.{total}
 use Rattle.divisions.specs.Award.{givesMore}
+use Rattle.divisions.proofs.Order.{more-here, more-later}
 use Rattle.choices.proofs.Choice.{starts, ends, fits, width, placed, costWith}
 use Rattle.choices.proofs.Sound.{SoundSegment}
 use Rattle.choices.proofs.Fill.{base, room, cost, Box, Less}
@@ -77,18 +77,10 @@ placed-less [] [] [] b d h = h
 placed-less (s ∷ c) (y ∷ ys) (x ∷ xs) b d (inl h) = inl (placed-less c ys xs (b .1) (d .1) h)
 placed-less (s ∷ c) (y ∷ ys) (x ∷ xs) b d (inr h) = inr (ap (λ (l : List ℕ). placed c l) (h .0), omega arith)
 
-more-here : (x y : ℕ) (xs ys : List ℕ) → y < x → givesMore (x ∷ xs) (y ∷ ys) ≡ true
-unfolding givesMore
-more-here x y xs ys h = rw (lt-ltb y x h)
-
-more-later : (z : ℕ) (xs ys : List ℕ) → givesMore xs ys ≡ true → givesMore (z ∷ xs) (z ∷ ys) ≡ true
-unfolding givesMore
-more-later z xs ys h = rw (le-ltb z z (le-refl z), eq-eqb z z refl, h)
-
 -- after the same quantities
 more-after : (zs xs ys : List ℕ) → givesMore xs ys ≡ true → givesMore (reverseAux zs xs) (reverseAux zs ys) ≡ true
 more-after [] xs ys h = h
-more-after (z ∷ zs) xs ys h = more-after zs (z ∷ xs) (z ∷ ys) (more-later z xs ys h)
+more-after (z ∷ zs) xs ys h = more-after zs (z ∷ xs) (z ∷ ys) (more-later z z xs ys refl h)
 
 pub less-more : (ys xs v w : List ℕ) → Less ys xs → givesMore (reverseAux xs w) (reverseAux ys v) ≡ true
 less-more (y ∷ ys) (x ∷ xs) v w (inl h) = less-more ys xs (y ∷ v) (x ∷ w) h

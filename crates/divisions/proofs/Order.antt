@@ -31,14 +31,14 @@ both a b e f = rw (e, f)
 
 -- ---- more to the first bidder at whom two differ
 
-abbrev More : List ℕ → List ℕ → Type 0
+abbrev pub More : List ℕ → List ℕ → Type 0
 More xs ys = givesMore xs ys ≡ true
 
-more-here : (x y : ℕ) (xs ys : List ℕ) → y < x → More (x ∷ xs) (y ∷ ys)
+pub more-here : (x y : ℕ) (xs ys : List ℕ) → y < x → More (x ∷ xs) (y ∷ ys)
 unfolding givesMore
 more-here x y xs ys h = left (ltb y x) _ (lt-ltb y x h)
 
-more-later : (x y : ℕ) (xs ys : List ℕ) → x ≡ y → More xs ys → More (x ∷ xs) (y ∷ ys)
+pub more-later : (x y : ℕ) (xs ys : List ℕ) → x ≡ y → More xs ys → More (x ∷ xs) (y ∷ ys)
 unfolding givesMore
 more-later x y xs ys e h = right (ltb y x) _ (both (eqb x y) (givesMore xs ys) (eq-eqb x y e) h)
 

@@ -20,24 +20,24 @@ use Rattle.supply.specs.Supply.{segment0, supplyOf, on, priceAt}
 abbrev pub segmentAt : List Segment → ℕ → Segment
 segmentAt ss j = getD ss j segment0
 
-on-low : (s : Segment) (r : ℕ) → on s r ≡ true → s .start .0 ≤ r
+pub on-low : (s : Segment) (r : ℕ) → on s r ≡ true → s .start .0 ≤ r
 unfolding on
 on-low s r e = within-low (s .start .0) (s .end .0) r e
 
-on-high : (s : Segment) (r : ℕ) → on s r ≡ true → r ≤ s .end .0
+pub on-high : (s : Segment) (r : ℕ) → on s r ≡ true → r ≤ s .end .0
 unfolding on
 on-high s r e = within-high (s .start .0) (s .end .0) r e
 
-off-above : (s : Segment) (r : ℕ) → s .end .0 < r → on s r ≡ false
+pub off-above : (s : Segment) (r : ℕ) → s .end .0 < r → on s r ≡ false
 unfolding on
 off-above s r h = rw (lt-leb r (s .end .0) h, and-false)
 
-record Step (before : ℕ) (s : Segment) (ss : List Segment) : Type 0 where
-  above : before < s .start .0
-  order : s .start .0 ≤ s .end .0
-  rest : segmentsRise (s .end .0) ss ≡ true
+pub record Step (before : ℕ) (s : Segment) (ss : List Segment) : Type 0 where
+  pub above : before < s .start .0
+  pub order : s .start .0 ≤ s .end .0
+  pub rest : segmentsRise (s .end .0) ss ≡ true
 
-step : (before : ℕ) (s : Segment) (ss : List Segment) → segmentsRise before (s ∷ ss) ≡ true → Step before s ss
+pub step : (before : ℕ) (s : Segment) (ss : List Segment) → segmentsRise before (s ∷ ss) ≡ true → Step before s ss
 unfolding segmentsRise
 step before s ss e =
     let a = ltb before (s .start .0) in

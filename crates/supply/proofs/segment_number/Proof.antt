@@ -50,7 +50,7 @@ returns-2 c =
     let a = l .before .before .before .before .args in
     let at = l .before .loop in
     let there = sym (c .before .on-segment .ensures) ∙ c .if2 .taken in
-    sym (at .jnv .1 ∙ number-stop (a .quantity .0) (a .t1 .segments) (at .j) (a .t1 .count) (l .loop-test .taken) (held l) (at .j + 1) there)
+    sym (at .inv .1 ∙ number-stop (a .quantity .0) (a .t1 .segments) (at .j) (a .t1 .count) (l .loop-test .taken) (held l) (at .j + 1) there)
 
 add-j : tie.Need-add-j Inv-loop μ-loop
 add-j c = search needs
@@ -65,14 +65,14 @@ loop-again c =
     let at = l .before .loop in
     let off = sym (c .before .on-segment .ensures) ∙ c .if2 .left in (
       omega arith,
-      at .jnv .1 ∙ number-next (a .quantity .0) (a .t1 .segments) (at .j) (a .t1 .count) (l .loop-test .taken) (held l) (at .j + 1) off,
+      at .inv .1 ∙ number-next (a .quantity .0) (a .t1 .segments) (at .j) (a .t1 .count) (l .loop-test .taken) (held l) (at .j + 1) off,
     )
 
 returns-3 : tie.Need-returns-3 Inv-loop μ-loop
 returns-3 c =
     let a = c .before .before .before .before .args in
     let at = c .before .loop in
-    sym (at .jnv .1 ∙ number-done (at .j + 1) (a .quantity .0) (a .t1 .segments) (at .j) (a .t1 .count) (at .jnv .0) (c .loop-test .left))
+    sym (at .inv .1 ∙ number-done (at .j + 1) (a .quantity .0) (a .t1 .segments) (at .j) (a .t1 .count) (at .inv .0) (c .loop-test .left))
 
 pub segment-number-spec : {M : Type 1} → statement M
 segment-number-spec =
