@@ -1,0 +1,74 @@
+-- What clearing answers, by cases: a book's own refusal, no division, or an award. Assumes nothing.
+use Prim.Native.Nat.{ℕ}
+use native.Mathlib.Omega.{arith}
+use mathlib.Core.Option.{Option, some, none}
+use mathlib.Core.Path.{_≡_, refl, ap, _∙_}
+use Rattle.refusal.specs.declared.Rule.{Rule}
+use Rattle.refusal.specs.declared.Rule.the-variants.{NotCovered}
+use Rattle.refusal.specs.declared.Verdict.{Verdict}
+use Rattle.refusal.specs.declared.Verdict.the-variants.{Accepted, Refused}
+use Rattle.book.specs.declared.Book.{Book}
+use Rattle.book.specs.Entries.{BookEntries, bookEntries, SameBook}
+use Rattle.book.specs.Rules.{bookVerdict}
+use Rattle.divisions.specs.Award.{Priced}
+use Rattle.award.specs.Award.{noAward}
+use Rattle.clearing.specs.declared.Clearing.{Clearing}
+use Rattle.clearing.specs.Clearing.{awardOfBook, awardRecord, refusedClearing, clearedBook, clearOf}
+
+-- the same book, the same answer
+pub same-clear : (a b : Book) → SameBook a b → clearOf (bookEntries a) ≡ clearOf (bookEntries b)
+same-clear a b e = ap clearOf e
+
+module _ (b : BookEntries) where
+  -- a refusal by rules 3 to 8 comes first
+  pub rules-first : (rule : Rule) (line : ℕ) → bookVerdict b ≡ Refused rule line → clearOf b ≡ refusedClearing (Refused rule line)
+  unfolding clearOf
+  rules-first rule line e = rw e
+
+  pub rules-passed : bookVerdict b ≡ Accepted → clearOf b ≡ clearedBook b (awardOfBook b)
+  unfolding clearOf
+  rules-passed e = rw e
+
+  pub no-division : bookVerdict b ≡ Accepted → awardOfBook b ≡ none → clearOf b ≡ refusedClearing (Refused NotCovered 0)
+  unfolding clearedBook
+  no-division e f = rules-passed e ∙ ap (clearedBook b) f
+
+  abbrev pub covered : Priced → Clearing
+  covered award = record { verdict = Accepted; award = awardRecord b award }
+
+  pub division : (award : Priced) → bookVerdict b ≡ Accepted → awardOfBook b ≡ some award → clearOf b ≡ covered award
+  unfolding clearedBook
+  division award e f = rules-passed e ∙ ap (clearedBook b) f
+
+  -- an answer that is accepted has an award
+  pub record Cleared : Type 0 where
+    pub accepted : bookVerdict b ≡ Accepted
+    pub award : Priced
+    pub is-award : awardOfBook b ≡ some award
+    pub answer : clearOf b ≡ covered award
+
+  pub cleared : clearOf b .verdict ≡ Accepted → Cleared
+  cleared h = go (bookVerdict b) refl (awardOfBook b) refl
+    where
+      go : (v : Verdict) → bookVerdict b ≡ v → (o : Option Priced) → awardOfBook b ≡ o → Cleared
+      go (Refused rule line) e o f =
+          let refused : clearOf b .verdict ≡ Refused rule line = ap (λ (c : Clearing). c .verdict) (rules-first rule line e) in
+          let z : _≡_ {A = ℕ} 0 1 = cc in
+          absurd (omega arith)
+      go Accepted e none f =
+          let refused : clearOf b .verdict ≡ Refused NotCovered 0 = ap (λ (c : Clearing). c .verdict) (no-division e f) in
+          let z : _≡_ {A = ℕ} 0 1 = cc in
+          absurd (omega arith)
+      go Accepted e (some award) f = record { accepted = e; award = award; is-award = f; answer = division award e f }
+
+  -- with each refusal the award is all zeros and `none`
+  pub refused-blank : (rule : Rule) (place : ℕ) → clearOf b .verdict ≡ Refused rule place → clearOf b .award ≡ noAward
+  refused-blank rule place h = go (bookVerdict b) refl (awardOfBook b) refl
+    where
+      go : (v : Verdict) → bookVerdict b ≡ v → (o : Option Priced) → awardOfBook b ≡ o → clearOf b .award ≡ noAward
+      go (Refused rule line) e o f = ap (λ (c : Clearing). c .award) (rules-first rule line e)
+      go Accepted e none f = ap (λ (c : Clearing). c .award) (no-division e f)
+      go Accepted e (some award) f =
+          let accepted : clearOf b .verdict ≡ Accepted = ap (λ (c : Clearing). c .verdict) (division award e f) in
+          let z : _≡_ {A = ℕ} 0 1 = cc in
+          absurd (omega arith)

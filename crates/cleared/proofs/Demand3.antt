@@ -1,0 +1,146 @@
+-- Demand 3, of every record that is accepted and of what clearing answers for it. That the record's array of bids has its eight places
+-- is what the language guarantees (`held`). Assumes nothing.
+use Prim.Native.Nat.{ℕ, suc, _-_, _≤_, _<_}
+use native.Mathlib.Omega.{arith}
+use mathlib.Core.List.{List, _++_, map}
+use mathlib.Core.Logic.{_↔_}
+use mathlib.Core.Option.{Option, some, none}
+use mathlib.Core.Path.{_≡_, refl, sym, ap, _∙_, subst}
+use lib.IntN.{ℤ}
+use lib.ListN.{length, take, length-map}
+use lib.Seq.{length-take-le}
+use Rattle.refusal.specs.declared.Rule.the-variants.{NotCovered}
+use Rattle.refusal.specs.declared.Verdict.{Verdict}
+use Rattle.refusal.specs.declared.Verdict.the-variants.{Accepted, Refused}
+use Rattle.money.specs.declared.Cents.{Cents}
+use Rattle.book.specs.declared.Segment.{Segment}
+use Rattle.book.specs.declared.Book.{Book}
+use Rattle.book.specs.Entries.{BidEntries, BookEntries, bidEntries, bookEntries}
+use Rattle.book.specs.Rules.{bookVerdict}
+use Rattle.book.proofs.Records.{noBid}
+use Rattle.book.proofs.Accepted.{book-accepted, all-accepted}
+use Rattle.supply.specs.Supply.{suppliesOf}
+use Rattle.divisions.specs.Division.{Allocation, Division}
+use Rattle.divisions.specs.Award.{Priced, awardOf}
+use Rattle.divisions.specs.Best.{IsAward, insideCount}
+use Rattle.divisions.proofs.Award.{as-many, award-is, no-award-iff}
+use Rattle.choices.proofs.Accepted.{sound-supplies}
+use Rattle.choices.proofs.OneInside.{at-most-one-inside}
+use Rattle.award.specs.declared.Total.the-variants.{Amount, Nothing}
+use Rattle.award.specs.declared.Row.{Row}
+use Rattle.award.specs.declared.Award.{Award}
+use Rattle.award.specs.Award.{rowOf}
+use Rattle.clearing.specs.declared.Clearing.{Clearing}
+use Rattle.clearing.specs.Clearing.{awardOfBook, bookWithout, totalOf, totalWithout, awardRecord, clearOf}
+use Rattle.cleared.specs.Awarded.{rowAt, awarded}
+use Rattle.cleared.proofs.Rows.{record-awarded, record-row}
+use Rattle.cleared.proofs.Answers.{Cleared, cleared, covered, no-division, division}
+
+-- every way to divide the demand among a book's bids
+abbrev pub DivisionOf : BookEntries → List ℕ → Type 0
+DivisionOf b rs = Division (b .demand) (suppliesOf (b .bids)) rs
+
+abbrev pub AwardOf : BookEntries → Priced → Type 0
+AwardOf b award = IsAward (b .demand) (suppliesOf (b .bids)) award
+
+module _ (b : BookEntries) where
+  pub award-of-book : (award : Priced) → awardOfBook b ≡ some award → AwardOf b award
+  unfolding awardOfBook
+  award-of-book award e = award-is (b .demand) (suppliesOf (b .bids)) award e
+
+  pub no-award-of-book : (awardOfBook b ≡ none) ↔ ((rs : List ℕ) → DivisionOf b rs → ⊥)
+  unfolding awardOfBook
+  no-award-of-book = no-award-iff (b .demand) (suppliesOf (b .bids))
+
+  -- "not covered" is said exactly when there is no division
+  pub not-covered-iff : bookVerdict b ≡ Accepted → (clearOf b .verdict ≡ Refused NotCovered 0) ↔ ((rs : List ℕ) → DivisionOf b rs → ⊥)
+  not-covered-iff e = (λ h. no-award-of-book .0 (none-of (awardOfBook b) refl h), λ f. ap (λ (c : Clearing). c .verdict) (no-division b e (no-award-of-book .1 f)))
+    where
+      none-of : (o : Option Priced) → awardOfBook b ≡ o → clearOf b .verdict ≡ Refused NotCovered 0 → awardOfBook b ≡ none
+      none-of none f h = f
+      none-of (some award) f h =
+          let accepted : clearOf b .verdict ≡ Accepted = ap (λ (c : Clearing). c .verdict) (division b award e f) in
+          let z : _≡_ {A = ℕ} 0 1 = cc in
+          absurd (omega arith)
+
+  -- a total is `none` exactly when there is no division, and else the cost of the award
+  total-none-iff : (totalOf (awardOfBook b) ≡ Nothing) ↔ ((rs : List ℕ) → DivisionOf b rs → ⊥)
+  total-none-iff = (λ h. no-award-of-book .0 (none-of (awardOfBook b) refl h), λ f. ap totalOf (no-award-of-book .1 f))
+    where
+      none-of : (o : Option Priced) → awardOfBook b ≡ o → totalOf (awardOfBook b) ≡ Nothing → awardOfBook b ≡ none
+      none-of none f h = f
+      none-of (some award) f h =
+          let amount : totalOf (awardOfBook b) ≡ Amount (record { 0 = award .cost }) = ap totalOf f in
+          let z : _≡_ {A = ℕ} 0 1 = cc in
+          absurd (omega arith)
+
+  total-amount : (cents : ℤ) → totalOf (awardOfBook b) ≡ Amount (record { 0 = cents }) → (award : Priced) × AwardOf b award × (award .cost ≡ cents)
+  total-amount cents h = go (awardOfBook b) refl
+    where
+      go : (o : Option Priced) → awardOfBook b ≡ o → (award : Priced) × AwardOf b award × (award .cost ≡ cents)
+      go none f =
+          let nothing : totalOf (awardOfBook b) ≡ Nothing = ap totalOf f in
+          let z : _≡_ {A = ℕ} 0 1 = cc in
+          absurd (omega arith)
+      go (some award) f =
+          let amount : totalOf (awardOfBook b) ≡ Amount (record { 0 = award .cost }) = ap totalOf f in
+          let same : _≡_ {A = Cents} (record { 0 = award .cost }) (record { 0 = cents }) = cc in
+          (award, award-of-book award f, ap (λ (x : Cents). x .0) same)
+
+module _ (book : Book) (held : length (book .bids) ≡ 8) where
+  abbrev b : BookEntries
+  b = bookEntries book
+
+  abbrev answer : Clearing
+  answer = clearOf b
+
+  few : bookVerdict b ≡ Accepted → b .count ≤ 8
+  few e = book-accepted b e .count-high
+
+  complete : bookVerdict b ≡ Accepted → length (b .bids) ≡ b .count
+  complete e =
+      let within : book .count ≤ length (book .bids) = omega (arith, few e) in
+      length-map (take (book .count) (book .bids)) bidEntries ∙ length-take-le (book .count) (book .bids) within
+
+  module _ (accepted : answer .verdict ≡ Accepted) where
+    c : Cleared b
+    c = cleared b accepted
+
+    is-award : AwardOf b (c .award)
+    is-award = award-of-book b (c .award) (c .is-award)
+
+    many : length (c .award .quantities) ≡ length (b .bids)
+    many = as-many (suppliesOf (b .bids)) (c .award .quantities) (is-award .division .allocation) ∙ length-map (b .bids) _
+
+    says : awarded (answer .award) ≡ c .award
+    says = ap (λ (x : Clearing). awarded (x .award)) (c .answer) ∙ record-awarded b (few (c .accepted)) (complete (c .accepted)) (c .award) many
+
+    -- the award is one of the divisions, every other division costs more, or costs the same and gives less to the first bidder at
+    -- whom the two differ; the total is its cost
+    pub no-other-cheaper : AwardOf b (awarded (answer .award))
+    no-other-cheaper = subst (AwardOf b) (sym says) is-award
+
+    -- the total shown without a bidder is that of the award of the other bids
+    pub without-is : (i : ℕ) → i < b .count → rowAt (answer .award) i .without ≡ totalOf (awardOfBook (bookWithout i b))
+    unfolding totalWithout rowOf
+    without-is i h =
+        ap (λ (x : Clearing). rowAt (x .award) i .without) (c .answer)
+        ∙ ap (λ (row : Row). row .without) (record-row b (few (c .accepted)) (complete (c .accepted)) (c .award) many (bidEntries noBid) i h)
+
+    -- and `none` exactly when they have no division
+    pub none-without-iff : (i : ℕ) → i < b .count → (rowAt (answer .award) i .without ≡ Nothing) ↔ ((rs : List ℕ) → DivisionOf (bookWithout i b) rs → ⊥)
+    none-without-iff i h =
+        let (to, from) = total-none-iff (bookWithout i b) in
+        (λ e. to (sym (without-is i h) ∙ e), λ f. without-is i h ∙ from f)
+
+    pub amount-without : (i : ℕ) → i < b .count → (cents : ℤ) → rowAt (answer .award) i .without ≡ Amount (record { 0 = cents })
+        → (award : Priced) × AwardOf (bookWithout i b) award × (award .cost ≡ cents)
+    amount-without i h cents e = total-amount (bookWithout i b) cents (sym (without-is i h) ∙ e)
+
+    -- at most one bidder stands strictly inside its segment
+    pub one-inside : insideCount (suppliesOf (b .bids)) (awarded (answer .award) .quantities) ≤ 1
+    unfolding awardOfBook
+    one-inside =
+        let sound = sound-supplies (b .bids) (all-accepted b (c .accepted)) in
+        subst (λ (d : Priced). insideCount (suppliesOf (b .bids)) (d .quantities) ≤ 1) (sym says)
+        (at-most-one-inside (b .demand) (suppliesOf (b .bids)) sound (c .award) (c .is-award))

@@ -1,0 +1,3 @@
+pub mod Rows
+pub mod Answers
+pub mod Demand3
