@@ -1,20 +1,9 @@
-// The bid book as a record, and what makes a record a book: rules 3 to 8 of document 01.
-ghost use mathlib.Core.Path.{_≡_};
-ghost use Rattle.book.specs.Entries.{bookEntries};
-ghost use Rattle.book.specs.Rules.{bookVerdict};
-ghost use Rattle.book.specs.Room.{roomOf};
-
-// The parts of the check. The modules are private: what is pub in them serves this crate alone.
-mod figure;
-mod lines;
-mod order;
-mod prices;
-mod ranges;
+// The bid book as a record. What makes a record a book, rules 3 to 8 of document 01, stands in specs/;
+// `bidrules` and `bookrules` check it.
 
 use money::Blanks;
 use money::Cents;
 use money::CentsPerBlank;
-use refusal::Rule;
 use refusal::Verdict;
 
 // From start to end, both counted, r blanks cost unit × r + fixed.
@@ -44,37 +33,4 @@ pub struct Book {
 pub struct RoomFigure {
     pub verdict: Verdict,
     pub bytes: u64,
-}
-
-// Accepts a record, or names its first fault with its line.
-pub fn check(book: Book) -> Verdict
-    ensures { λ r. ⌜ r ≡ bookVerdict (bookEntries book) ⌝ }
-{
-    if !ranges::within(1, 1_000_000, book.demand.0) {
-        return Verdict::Refused(Rule::Range, 1);
-    }
-    let count = book.count;
-    if count == 0 {
-        return Verdict::Refused(Rule::BidCount, 2);
-    }
-    let verdict = lines::check_bids(book);
-    if let Verdict::Refused(_, _) = verdict {
-        return verdict;
-    }
-    if 8 < count {
-        return Verdict::Refused(Rule::BidCount, 10);
-    }
-    Verdict::Accepted
-}
-
-// How many bytes the book's text takes at most: 17 + 11 for each bid + 45 for each segment.
-pub fn room(book: Book) -> RoomFigure
-    ensures { λ r. ⌜ r ≡ roomOf (bookEntries book) ⌝ }
-{
-    let verdict = check(book);
-    if let Verdict::Refused(_, _) = verdict {
-        return RoomFigure { verdict, bytes: 0 };
-    }
-    let bytes = 17 + figure::room_of_bids(book);
-    RoomFigure { verdict, bytes }
 }

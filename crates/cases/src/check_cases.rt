@@ -6,10 +6,10 @@ use book::Book;
 use money::Blanks;
 
 pub fn run() {
-    report::verdict(b"the book", book::check(books::blanks(120)));
-    report::verdict(b"demand 0", book::check(books::blanks(0)));
-    report::verdict(b"demand 1000000", book::check(books::blanks(1_000_000)));
-    report::verdict(b"demand 1000001", book::check(books::blanks(1_000_001)));
+    report::verdict(b"the book", bookrules::check(books::blanks(120)));
+    report::verdict(b"demand 0", bookrules::check(books::blanks(0)));
+    report::verdict(b"demand 1000000", bookrules::check(books::blanks(1_000_000)));
+    report::verdict(b"demand 1000001", bookrules::check(books::blanks(1_000_001)));
     bidders();
     segments();
     starts();
@@ -26,14 +26,14 @@ fn first(bid: Bid) -> Book {
 
 fn bidders() {
     let eight = books::one(8, books::segment(1, 60, 400, 0));
-    report::verdict(b"bidders 8 and 8", book::check(first(eight)));
+    report::verdict(b"bidders 8 and 8", bookrules::check(first(eight)));
     let ten_thousand = books::one(10_000, books::segment(120, 120, 370, 0));
     report::verdict(
         b"bidder 10000",
-        book::check(books::three(120, books::bid3(), books::bid8(), ten_thousand)),
+        bookrules::check(books::three(120, books::bid3(), books::bid8(), ten_thousand)),
     );
     let zero = books::one(0, books::segment(1, 60, 400, 0));
-    report::verdict(b"bidder 0", book::check(first(zero)));
+    report::verdict(b"bidder 0", bookrules::check(first(zero)));
 }
 
 fn segments() {
@@ -44,10 +44,10 @@ fn segments() {
     );
     report::verdict(
         b"segments 1 to 60 and 60 to 100",
-        book::check(first(touching)),
+        bookrules::check(first(touching)),
     );
     let backward = books::one(3, books::segment(60, 1, 400, 0));
-    report::verdict(b"a segment 60 to 1", book::check(first(backward)));
+    report::verdict(b"a segment 60 to 1", bookrules::check(first(backward)));
 }
 
 // The price at the start of the second segment.
@@ -57,39 +57,39 @@ fn starts() {
         books::segment(1, 60, 400, 0),
         books::segment(61, 100, 350, -21_350),
     );
-    report::verdict(b"seg 61 100 350 -21350", book::check(first(free)));
+    report::verdict(b"seg 61 100 350 -21350", bookrules::check(first(free)));
     let below = books::two(
         3,
         books::segment(1, 60, 400, 0),
         books::segment(61, 100, 350, -21_351),
     );
-    report::verdict(b"seg 61 100 350 -21351", book::check(first(below)));
+    report::verdict(b"seg 61 100 350 -21351", bookrules::check(first(below)));
 }
 
 fn prices() {
     let large = books::one(3, books::segment(1, 60, 400, 1_000_000_000_001));
-    report::verdict(b"fixed price 1000000000001", book::check(first(large)));
+    report::verdict(b"fixed price 1000000000001", bookrules::check(first(large)));
     let small = books::one(3, books::segment(1, 60, 400, -1_000_000_000_001));
-    report::verdict(b"fixed price -1000000000001", book::check(first(small)));
+    report::verdict(b"fixed price -1000000000001", bookrules::check(first(small)));
     let dear = books::one(3, books::segment(1, 60, 1_000_001, 0));
-    report::verdict(b"unit price 1000001", book::check(first(dear)));
+    report::verdict(b"unit price 1000001", bookrules::check(first(dear)));
 }
 
 fn counts() {
     let mut book = books::blanks(120);
     book.count = 0;
-    report::verdict(b"no bids", book::check(book));
+    report::verdict(b"no bids", bookrules::check(book));
     book.count = 18_446_744_073_709_551_615;
     report::verdict(
         b"a count of 2^64 - 1, the fourth bid empty",
-        book::check(book),
+        bookrules::check(book),
     );
     let mut bid = books::bid3();
     bid.count = 0;
-    report::verdict(b"no segments", book::check(first(bid)));
+    report::verdict(b"no segments", bookrules::check(first(bid)));
     bid.count = 7;
-    report::verdict(b"seven segments", book::check(first(bid)));
-    report::verdict(b"nine bids", book::check(nine()));
+    report::verdict(b"seven segments", bookrules::check(first(bid)));
+    report::verdict(b"nine bids", bookrules::check(nine()));
 }
 
 // Eight good bids and a count of nine.
@@ -118,9 +118,9 @@ fn first_fault() {
         books::segment(1, 60, 400, 0),
         books::segment(60, 100, 350, -500),
     );
-    report::verdict(b"5 and 7 in a line", book::check(first(both)));
+    report::verdict(b"5 and 7 in a line", bookrules::check(first(both)));
     both.count = 7;
-    report::verdict(b"4, 5 and 7 in a line", book::check(first(both)));
+    report::verdict(b"4, 5 and 7 in a line", bookrules::check(first(both)));
 }
 
 // In a book the first line.
@@ -129,11 +129,11 @@ fn first_line() {
     let broken = books::one(12, books::segment(0, 60, 400, 0));
     report::verdict(
         b"6 in line 3, 5 in line 4",
-        book::check(books::three(120, fine, books::bid8(), broken)),
+        bookrules::check(books::three(120, fine, books::bid8(), broken)),
     );
 }
 
 fn rooms() {
-    show::room(b"room of the book", book::room(books::blanks(120)));
-    show::room(b"room with demand 0", book::room(books::blanks(0)));
+    show::room(b"room of the book", bookrules::room(books::blanks(120)));
+    show::room(b"room with demand 0", bookrules::room(books::blanks(0)));
 }

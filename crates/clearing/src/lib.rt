@@ -81,12 +81,12 @@ fn rows(book: Book, quantities: [Blanks; 8]) -> [Row; 8]
     rows
 }
 
-// Clears any record: refused by rules 3 to 8 as `book::check` refuses it, by rule 9 where its bids
+// Clears any record: refused by rules 3 to 8 as `bookrules::check` refuses it, by rule 9 where its bids
 // have no division, and else awarded.
 pub fn clear(book: Book) -> Clearing
     ensures { λ r. ⌜ r ≡ clearOf (bookEntries book) ⌝ }
 {
-    let verdict = book::check(book);
+    let verdict = bookrules::check(book);
     if let Verdict::Refused(_, _) = verdict {
         return refused(verdict);
     }

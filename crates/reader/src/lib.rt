@@ -36,7 +36,7 @@ pub fn read(text: &[u8]) -> BookRead
         return refused(Rule::Shape, next.at as u64);
     }
     let book = parsed.book;
-    let verdict = book::check(book);
+    let verdict = bookrules::check(book);
     if let Verdict::Refused(rule, line) = verdict {
         return refused(rule, line);
     }

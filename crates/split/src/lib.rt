@@ -25,7 +25,7 @@ pub struct SplitPrice {
 pub fn price_split(book: Book, quantities: &[u64]) -> SplitPrice
     ensures { λ r. ⌜ r ≡ splitOf (bookEntries book) (now (quantities .entry)) ⌝ }
 {
-    let verdict = book::check(book);
+    let verdict = bookrules::check(book);
     if let Verdict::Refused(_, _) = verdict {
         return refused(verdict);
     }

@@ -22,7 +22,7 @@ pub fn write(book: Book, out: &mut [u8]) -> BookWritten
     ensures { λ r. ⌜ r ≡ writeOf book (length (now (out .entry))) ⌝ }
     ensures { λ r. ⌜ now (out .exit) ≡ outputOf book (now (out .entry)) ⌝ }
 {
-    let verdict = book::check(book);
+    let verdict = bookrules::check(book);
     if let Verdict::Refused(_, _) = verdict {
         return BookWritten { verdict, bytes: 0 };
     }

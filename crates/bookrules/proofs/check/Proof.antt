@@ -1,0 +1,70 @@
+use mathlib.Core.Bool.{true}
+use mathlib.Core.Path.{_≡_, sym, _∙_}
+use native.Mathlib.Omega.{arith}
+use borrow.Author.Needs.{needs}
+use borrow.Author.Tests.{lt-ltb, le-leb, lt-leb}
+use lib.Dec.{ltb}
+use Rattle.lists.proofs.Tests.{passed, failed}
+use Rattle.book.specs.Rules.{within, bookVerdict}
+use Rattle.bookrules.proofs.check.Statement.{statement}
+use Rattle.bookrules.proofs.check.Tie as tie
+
+-- what each test shows
+demand-kept : (c : tie.Else1) → within 1 1000000 (c .before .before .args .book .demand .0) ≡ true
+demand-kept c = passed (c .before .within .ensures) (c .if1 .left)
+
+some-bid : (c : tie.Else2) → ltb 0 (c .before .before .before .args .book .count) ≡ true
+some-bid c = lt-ltb 0 (c .before .before .before .args .book .count) (omega (arith, c .if2 .left))
+
+within-requires : tie.Need-within-requires
+within-requires c κs = search needs
+
+returns : tie.Need-returns
+unfolding bookVerdict
+returns c = simp (failed (c .before .within .ensures) (c .if1 .taken))
+
+returns-2 : tie.Need-returns-2
+unfolding bookVerdict
+returns-2 c = simp (demand-kept (c .before), c .if2 .taken)
+
+check-bids-requires : tie.Need-check-bids-requires
+check-bids-requires c κs = search needs
+
+enum-told : tie.Need-enum-told
+enum-told c = search needs
+
+returns-3 : tie.Need-returns-3
+unfolding bookVerdict
+returns-3 c =
+    let e2 = c .before .before .before in
+    let verdict = c .enum-told .given .1 in
+    simp (demand-kept (e2 .before), some-bid e2, sym (c .before .before .check-bids .ensures) ∙ verdict) verdict
+
+enum-told-2 : tie.Need-enum-told-2
+enum-told-2 c = search needs
+
+returns-4 : tie.Need-returns-4
+unfolding bookVerdict
+returns-4 c =
+    let e2 = c .before .before .before .before in
+    simp (demand-kept (e2 .before), some-bid e2, sym (c .before .before .before .check-bids .ensures) ∙ c .before .enum-told2 .given .1, lt-leb _ _ (c .if3 .taken))
+
+returns-5 : tie.Need-returns-5
+unfolding bookVerdict
+returns-5 c =
+    let e2 = c .before .before .before .before in
+    simp (demand-kept (e2 .before), some-bid e2, sym (c .before .before .before .check-bids .ensures) ∙ c .before .enum-told2 .given .1, le-leb _ _ (c .if3 .left))
+
+pub check-spec : {M : Type 1} → statement M
+check-spec =
+    tie.close
+    (tie.spec
+    within-requires
+    returns
+    returns-2
+    check-bids-requires
+    enum-told
+    returns-3
+    enum-told-2
+    returns-4
+    returns-5)

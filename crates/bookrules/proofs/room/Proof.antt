@@ -1,0 +1,34 @@
+use mathlib.Core.Path.{sym, _∙_}
+use borrow.Author.Needs.{needs}
+use Rattle.book.specs.Room.{roomOf}
+use Rattle.bookrules.proofs.room.Statement.{statement}
+use Rattle.bookrules.proofs.room.Tie as tie
+
+check-requires : tie.Need-check-requires
+check-requires c κs = search needs
+
+enum-told : tie.Need-enum-told
+enum-told c = search needs
+
+returns : tie.Need-returns
+unfolding roomOf
+returns c = rw (sym (c .before .before .check .ensures) ∙ c .enum-told .given .1, c .enum-told .given .1)
+
+enum-told-2 : tie.Need-enum-told-2
+enum-told-2 c = search needs
+
+room-of-bids-requires : tie.Need-room-of-bids-requires
+room-of-bids-requires c κs = sym (c .before .before .check .ensures) ∙ c .enum-told2 .given .1
+
+add-bytes : tie.Need-add-bytes
+add-bytes c = search needs
+
+returns-2 : tie.Need-returns-2
+unfolding roomOf
+returns-2 c =
+    let told = c .before .enum-told2 .given .1 in
+    rw (sym (c .before .before .before .check .ensures) ∙ told, told, c .room-of-bids .ensures .0)
+
+pub room-spec : {M : Type 1} → statement M
+room-spec =
+    tie.close (tie.spec check-requires enum-told returns enum-told-2 room-of-bids-requires add-bytes returns-2)

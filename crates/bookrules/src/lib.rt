@@ -1,0 +1,47 @@
+// A bid book checked by rules 3 to 8 of document 01, and the room figure.
+ghost use mathlib.Core.Path.{_≡_};
+ghost use Rattle.book.specs.Entries.{bookEntries};
+ghost use Rattle.book.specs.Rules.{bookVerdict};
+ghost use Rattle.book.specs.Room.{roomOf};
+
+// The parts of the check. The modules are private: what is pub in them serves this crate alone.
+mod figure;
+mod lines;
+
+use book::Book;
+use book::RoomFigure;
+use refusal::Rule;
+use refusal::Verdict;
+
+// Accepts a record, or names its first fault with its line.
+pub fn check(book: Book) -> Verdict
+    ensures { λ r. ⌜ r ≡ bookVerdict (bookEntries book) ⌝ }
+{
+    if !bidrules::ranges::within(1, 1_000_000, book.demand.0) {
+        return Verdict::Refused(Rule::Range, 1);
+    }
+    let count = book.count;
+    if count == 0 {
+        return Verdict::Refused(Rule::BidCount, 2);
+    }
+    let verdict = lines::check_bids(book);
+    if let Verdict::Refused(_, _) = verdict {
+        return verdict;
+    }
+    if 8 < count {
+        return Verdict::Refused(Rule::BidCount, 10);
+    }
+    Verdict::Accepted
+}
+
+// How many bytes the book's text takes at most: 17 + 11 for each bid + 45 for each segment.
+pub fn room(book: Book) -> RoomFigure
+    ensures { λ r. ⌜ r ≡ roomOf (bookEntries book) ⌝ }
+{
+    let verdict = check(book);
+    if let Verdict::Refused(_, _) = verdict {
+        return RoomFigure { verdict, bytes: 0 };
+    }
+    let bytes = 17 + figure::room_of_bids(book);
+    RoomFigure { verdict, bytes }
+}
