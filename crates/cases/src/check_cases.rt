@@ -8,8 +8,14 @@ use money::Blanks;
 pub fn run() {
     report::verdict(b"the book", bookrules::check(books::blanks(120)));
     report::verdict(b"demand 0", bookrules::check(books::blanks(0)));
-    report::verdict(b"demand 1000000", bookrules::check(books::blanks(1_000_000)));
-    report::verdict(b"demand 1000001", bookrules::check(books::blanks(1_000_001)));
+    report::verdict(
+        b"demand 1000000",
+        bookrules::check(books::blanks(1_000_000)),
+    );
+    report::verdict(
+        b"demand 1000001",
+        bookrules::check(books::blanks(1_000_001)),
+    );
     bidders();
     segments();
     starts();
@@ -70,7 +76,10 @@ fn prices() {
     let large = books::one(3, books::segment(1, 60, 400, 1_000_000_000_001));
     report::verdict(b"fixed price 1000000000001", bookrules::check(first(large)));
     let small = books::one(3, books::segment(1, 60, 400, -1_000_000_000_001));
-    report::verdict(b"fixed price -1000000000001", bookrules::check(first(small)));
+    report::verdict(
+        b"fixed price -1000000000001",
+        bookrules::check(first(small)),
+    );
     let dear = books::one(3, books::segment(1, 60, 1_000_001, 0));
     report::verdict(b"unit price 1000001", bookrules::check(first(dear)));
 }

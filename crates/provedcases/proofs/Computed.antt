@@ -17,5 +17,5 @@ use Rattle.provedcases.proofs.Model.{modelOf}
 
 pub computed : All (λ (c : Case). modelOf (c .book) ≡ c .answer) table
 unfolding table every priceOf segmentInRange bidInRange segmentsRise startNotNegative bidVerdict bidsVerdict bookVerdict on priceAt numberFrom segmentNumber
-  printed sampleAbove sampleOf givesMore better pick fits width filled each leaf search rowOf bookWithout
+    printed sampleAbove sampleOf givesMore better pick fits width filled each leaf search rowOf bookWithout
 computed = (refl, (refl, (refl, (refl, (refl, (refl, (refl, (refl, (refl, (refl, (refl, tt)))))))))))
