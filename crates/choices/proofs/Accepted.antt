@@ -38,7 +38,11 @@ step before s ss e =
     let o = leb (s .start .0) (s .end .0) in
     let r = segmentsRise (s .end .0) ss in
     let front = both-left (a && o) r e in
-    record { above = ltb-true before (s .start .0) (both-left a o front); order = leb-true (s .start .0) (s .end .0) (both-right a o front); rest = both-right (a && o) r e }
+    record {
+      above = ltb-true before (s .start .0) (both-left a o front);
+      order = leb-true (s .start .0) (s .end .0) (both-right a o front);
+      rest = both-right (a && o) r e;
+    }
 
 segment-sound : (s : Segment) → InRange s → s .start .0 ≤ s .end .0 → startNotNegative s ≡ true → SoundSegment s
 unfolding startNotNegative
@@ -52,8 +56,9 @@ segments-sound before (s ∷ ss) rises ranges starts =
     let t = step before s ss rises in
     let range = both-left (segmentInRange s) (every segmentInRange ss) ranges in
     let start = both-left (startNotNegative s) (every startNotNegative ss) starts in
-    let later = segments-sound (s .end .0) ss (t .rest) (both-right (segmentInRange s) (every segmentInRange ss) ranges) (both-right (startNotNegative s) (every startNotNegative ss) starts) in
-    (segment-sound s (in-range s range) (t .order) start, later)
+    let later-ranges = both-right (segmentInRange s) (every segmentInRange ss) ranges in
+    let later-starts = both-right (startNotNegative s) (every startNotNegative ss) starts in
+    (segment-sound s (in-range s range) (t .order) start, segments-sound (s .end .0) ss (t .rest) later-ranges later-starts)
 
 -- Of segments that rise, one that a quantity is on.
 

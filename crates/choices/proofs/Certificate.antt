@@ -1,7 +1,7 @@
--- The certificate of a point of a choice's box, that the shares have it, and that with it at most one bidder stands strictly inside. Assumes nothing.
+-- The certificate of shares, that `shares` has it, and that with it at most one bidder stands strictly inside. Assumes nothing.
 use Prim.Native.Nat.{ℕ, suc, _+_, _-_, _≤_, _<_}
 use native.Mathlib.Omega.{arith}
-use mathlib.Core.Bool.{Bool, true, false, cond, _&&_}
+use mathlib.Core.Bool.{Bool, true, false, cond}
 use mathlib.Core.List.{List, [], _∷_}
 use mathlib.Core.Logic.{⊎-elim}
 use mathlib.Core.Path.{_≡_, refl}

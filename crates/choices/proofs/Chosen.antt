@@ -1,17 +1,16 @@
--- A segment chosen from each supply function, in book order, with a share of its width: such quantities are the allocations. Assumes nothing.
+-- A segment chosen from each supply function, in book order, and a share of its width: these are the allocations. Assumes nothing.
 use Prim.Native.Nat.{ℕ, _+_, _-_, _≤_}
 use native.Mathlib.Omega.{arith}
 use mathlib.Core.Bool.{Bool, true, false, cond, or-true, false≢true}
 use mathlib.Core.List.{List, [], _∷_, List·Memᴰ as In, List·Memᴰ·head as here, List·Memᴰ·tail as there, List·Memᴰ·not-nil}
-use mathlib.Core.Path.{_≡_, refl, sym, ap, ap₂, _∙_}
+use mathlib.Core.Path.{_≡_, refl, ap, ap₂, _∙_}
 use borrow.Author.Tests.{le-leb}
 use lib.IntN.{pos, _+ℤ_}
 use Rattle.lists.specs.All.{All}
 use Rattle.lists.proofs.Members.{all-in}
 use Rattle.book.specs.declared.Segment.{Segment}
-use Rattle.book.specs.Rules.{within}
 use Rattle.book.proofs.InRange.{within-low, within-high}
-use Rattle.supply.specs.Supply.{on, offers, inside, standsInside}
+use Rattle.supply.specs.Supply.{on, offers}
 use Rattle.supply.specs.Allocation.{costOf}
 use Rattle.divisions.specs.Division.{Allocation}
 use Rattle.divisions.specs.Best.{insideCount}
@@ -44,26 +43,26 @@ offers-when (t ∷ ts) s r (here e) o = let o′ : on t r ≡ true = rw e at o i
 offers-when (t ∷ ts) s r (there m) o = rw (offers-when ts s r m o) (or-true (on t r))
 
 -- a quantity that is offered is on a segment, with a share of its width
-record Offered (ss : List Segment) (r : ℕ) : Type 0 where
+record OnSegment (ss : List Segment) (r : ℕ) : Type 0 where
   segment : Segment
   share : ℕ
   chosen : In segment ss
   within : share ≤ width segment
   quantity : r ≡ segment .start .0 + share
 
-offered-here : (s : Segment) (ss : List Segment) (r : ℕ) → on s r ≡ true → Offered (s ∷ ss) r
+offered-here : (s : Segment) (ss : List Segment) (r : ℕ) → on s r ≡ true → OnSegment (s ∷ ss) r
 unfolding on width
 offered-here s ss r e =
     let low = within-low (s .start .0) (s .end .0) r e in
     let high = within-high (s .start .0) (s .end .0) r e in
     record { segment = s; share = r - s .start .0; chosen = here refl; within = omega arith; quantity = omega arith }
 
-offered : (ss : List Segment) (r : ℕ) → offers ss r ≡ true → Offered ss r
+offered : (ss : List Segment) (r : ℕ) → offers ss r ≡ true → OnSegment ss r
 unfolding offers
 offered [] r e = absurd (false≢true e)
 offered (s ∷ ss) r e = go (on s r) refl (λ f. offered ss r (rw f at e))
   where
-    go : (t : Bool) → on s r ≡ t → (on s r ≡ false → Offered ss r) → Offered (s ∷ ss) r
+    go : (t : Bool) → on s r ≡ t → (on s r ≡ false → OnSegment ss r) → OnSegment (s ∷ ss) r
     go true f later = offered-here s ss r f
     go false f later =
         let o = later f in
@@ -72,33 +71,33 @@ offered (s ∷ ss) r e = go (on s r) refl (λ f. offered ss r (rw f at e))
 -- All of them.
 
 module _ (ss : List Segment) (s : Segment) (x : ℕ) (sound : SoundSupply ss) (m : In s ss) (h : x ≤ width s) where
-  member : SoundSegment s
-  member = all-in SoundSegment ss s (sound .each) m
+  chosen-sound : SoundSegment s
+  chosen-sound = all-in SoundSegment ss s (sound .each) m
 
-  stands : on s (s .start .0 + x) ≡ true
-  stands = on-when s x member h
+  chosen-on : on s (s .start .0 + x) ≡ true
+  chosen-on = on-when s x chosen-sound h
 
 pub chosen-allocation : (supplies : List (List Segment)) (c : List Segment) (xs : List ℕ) → All SoundSupply supplies → Chosen supplies c xs
     → Allocation supplies (placed c xs)
 chosen-allocation [] [] [] sound a = tt
 chosen-allocation (ss ∷ supplies) (s ∷ c) (x ∷ xs) sound (m, h, a) =
-    (offers-when ss s (s .start .0 + x) m (stands ss s x (sound .0) m h), chosen-allocation supplies c xs (sound .1) a)
+    (offers-when ss s (s .start .0 + x) m (chosen-on ss s x (sound .0) m h), chosen-allocation supplies c xs (sound .1) a)
 
 pub chosen-cost : (supplies : List (List Segment)) (c : List Segment) (xs : List ℕ) → All SoundSupply supplies → Chosen supplies c xs
     → costOf supplies (placed c xs) ≡ pos (cost c xs)
 unfolding costOf
 chosen-cost [] [] [] sound a = refl
 chosen-cost (ss ∷ supplies) (s ∷ c) (x ∷ xs) sound (m, h, a) =
-    let there = sound .0 .one-price s (s .start .0 + x) m (stands ss s x (sound .0) m h) in
-    ap₂ _+ℤ_ (there ∙ price-on s x (member ss s x (sound .0) m h)) (chosen-cost supplies c xs (sound .1) a)
+    let price = sound .0 .one-price s (s .start .0 + x) m (chosen-on ss s x (sound .0) m h) in
+    ap₂ _+ℤ_ (price ∙ price-on s x (chosen-sound ss s x (sound .0) m h)) (chosen-cost supplies c xs (sound .1) a)
 
 pub chosen-inside : (supplies : List (List Segment)) (c : List Segment) (xs : List ℕ) → All SoundSupply supplies → Chosen supplies c xs
     → insideCount supplies (placed c xs) ≡ insides c xs
 unfolding insideCount
 chosen-inside [] [] [] sound a = refl
 chosen-inside (ss ∷ supplies) (s ∷ c) (x ∷ xs) sound (m, h, a) =
-    let there = sound .0 .one-inside s (s .start .0 + x) m (stands ss s x (sound .0) m h) in
-    ap₂ _+_ (ap (λ (t : Bool). cond t 1 0) there) (chosen-inside supplies c xs (sound .1) a)
+    let same = sound .0 .one-inside s (s .start .0 + x) m (chosen-on ss s x (sound .0) m h) in
+    ap₂ _+_ (ap (λ (t : Bool). cond t 1 0) same) (chosen-inside supplies c xs (sound .1) a)
 
 -- and every allocation is of such quantities
 pub allocation-chosen : (supplies : List (List Segment)) (rs : List ℕ) → Allocation supplies rs

@@ -27,7 +27,8 @@ module _ (L : Segment → Priced → Type 0) (f : Segment → Option Priced → 
   unfolding each
   each-best [] = best-iff (λ d. P d ⊎ Any [] d) P o (λ d p. inl p) (λ d. ⊎-elim (λ p. p) (λ t. absurd (List·Memᴰ·not-nil (t .1)))) b
   each-best (s ∷ ss) =
-      best-iff (λ d. P d ⊎ Any (s ∷ ss) d) (λ d. (P d ⊎ Any ss d) ⊎ L s d) (f s (each f ss o)) to from (one s (λ d. P d ⊎ Any ss d) (each f ss o) (each-best ss))
+      best-iff (λ d. P d ⊎ Any (s ∷ ss) d) (λ d. (P d ⊎ Any ss d) ⊎ L s d) (f s (each f ss o)) to from
+      (one s (λ d. P d ⊎ Any ss d) (each f ss o) (each-best ss))
     where
       to : (d : Priced) → (P d ⊎ Any ss d) ⊎ L s d → P d ⊎ Any (s ∷ ss) d
       to d (inl (inl p)) = inl p

@@ -8,3 +8,6 @@ pub mod Accepted
 pub mod Placed
 pub mod Leaves
 pub mod Chosen
+pub mod Divides
+pub mod Finds
+pub mod OneInside
