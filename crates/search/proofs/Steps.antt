@@ -5,8 +5,8 @@ use native.Mathlib.Omega.{arith}
 use mathlib.Core.Bool.{true, false}
 use mathlib.Core.List.{List, [], _∷_, map}
 use mathlib.Core.Option.{Option, none}
-use mathlib.Core.Path.{_≡_, refl, sym, ap, subst, _∙_}
-use lib.ListN.{length, getD, set, take, drop, length-map, List·getD-map, drop-of-length-le}
+use mathlib.Core.Path.{_≡_, ap, subst, _∙_}
+use lib.ListN.{length, getD, set, take, drop, length-map, List·getD-map, length-take, drop-of-length-le}
 use lib.Seq.{drop-cons, getD-take, length-take-le}
 use Rattle.lists.specs.All.{All}
 use Rattle.lists.proofs.All.{all-at}
@@ -19,7 +19,7 @@ use Rattle.book.proofs.Accepted.{AcceptedBid}
 use Rattle.supply.specs.Supply.{segment0, supplyOf, suppliesOf}
 use Rattle.divisions.specs.Award.{Priced, pick}
 use Rattle.choices.proofs.Choice.{fits, filled}
-use Rattle.choices.proofs.Search.{each, leaf, search}
+use Rattle.choices.proofs.Search.{each, leaf, search, searched}
 use Rattle.choices.proofs.Sound.{SoundSegment}
 use Rattle.filling.specs.declared.Best.{Best}
 use Rattle.filling.specs.declared.Choice.{Choice}
@@ -27,7 +27,7 @@ use Rattle.filling.specs.Records.{chosen, Sound, found}
 
 -- A choice: none yet, and one with a segment more.
 
-pub nothing-chosen : (c : Choice) → c .count ≡ 0 → chosen c ≡ []
+nothing-chosen : (c : Choice) → c .count ≡ 0 → chosen c ≡ []
 nothing-chosen c e = rw e (latest-none noSegment (c .segments))
 
 pub sound-nothing : (ss : List Segment) → Sound (record { count = 0; segments = ss })
@@ -68,16 +68,23 @@ module _ (f : Segment → Option Priced → Option Priced) (ss : List Segment) (
   unfolding each
   each-next j k e h r r′ p q = rw (drop-cons ss k segment0 h) (q ∙ ap (f (getD ss k segment0)) (rw e at p))
 
+  pub each-all : (j : ℕ) → j ≡ 0 → (r : Option Priced) → r ≡ each f (drop j ss) o → r ≡ each f ss o
+  each-all j e r p = rw e at p
+
+-- one of them tried, with the bidders after it
+abbrev pub tried : ℕ → List (List Segment) → List Segment → Segment → Option Priced → Option Priced
+tried demand supplies c s = search demand supplies (s ∷ c)
+
 -- The bidders from `at` on.
 module _ (demand : ℕ) (supplies : List (List Segment)) (at : ℕ) (c : List Segment) (o : Option Priced) where
-  pub search-done : length supplies ≤ at → search demand (drop at supplies) c o ≡ leaf demand c o
+  search-done : length supplies ≤ at → search demand (drop at supplies) c o ≡ leaf demand c o
   unfolding search
   search-done h = rw (drop-of-length-le supplies h)
 
-  pub search-next : (ss : List Segment) → at < length supplies → getD supplies at [] ≡ ss
-      → search demand (drop at supplies) c o ≡ each (λ s. search demand (drop (at + 1) supplies) (s ∷ c)) ss o
+  search-next : (ss d : List Segment) → at < length supplies → getD supplies at d ≡ ss
+      → search demand (drop at supplies) c o ≡ each (tried demand (drop (at + 1) supplies) c) ss o
   unfolding search
-  search-next ss h e = rw (drop-cons supplies at [] h, e, add-one)
+  search-next ss d h e = rw (drop-cons supplies at d h, e, add-one)
 
 -- The supply functions of a book's bids.
 module _ (bids : List Bid) (n : ℕ) (held : n ≤ length bids) where
@@ -95,16 +102,32 @@ module _ (bids : List Bid) (n : ℕ) (held : n ≤ length bids) where
       let l : i < length entries = rw length-entries h in
       subst AcceptedBid (entry-at i h) (all-at AcceptedBid (bidEntries noBid) entries all i l)
 
-  pub length-supplies : length (suppliesOf entries) ≡ n
+  length-supplies : length (suppliesOf entries) ≡ n
   length-supplies = length-map entries supplyOf ∙ length-entries
 
-  pub supply-at : (i : ℕ) → i < n → getD (suppliesOf entries) i [] ≡ supplyOf (bidEntries (getD bids i noBid))
-  supply-at i h = ?
+  supply-at : (i : ℕ) → i < n → getD (suppliesOf entries) i (supplyOf (bidEntries noBid)) ≡ supplyOf (bidEntries (getD bids i noBid))
+  supply-at i h = List·getD-map supplyOf entries i (bidEntries noBid) ∙ ap supplyOf (entry-at i h)
+
+  module _ (demand at : ℕ) (c : List Segment) (o : Option Priced) where
+    pub bidders-done : n ≤ at → search demand (drop at (suppliesOf entries)) c o ≡ leaf demand c o
+    bidders-done h = search-done demand (suppliesOf entries) at c o (omega (arith, length-supplies))
+
+    pub bidders-next : at < n
+        → search demand (drop at (suppliesOf entries)) c o
+        ≡ each (tried demand (drop (at + 1) (suppliesOf entries)) c) (supplyOf (bidEntries (getD bids at noBid))) o
+    bidders-next h =
+        let l : at < length (suppliesOf entries) = rw length-supplies h in
+        search-next demand (suppliesOf entries) at c o _ (supplyOf (bidEntries noBid)) l (supply-at at h)
 
 -- Of a bid, segment 0 and those that it counts.
 module _ (b : Bid) where
   pub few-segments : length (supplyOf (bidEntries b)) ≤ b .count + 1
-  few-segments = ?
+  few-segments = rw length-take (omega arith)
 
-  pub held-segments : b .count ≤ 6 → length (b .segments) ≡ 6 → length (supplyOf (bidEntries b)) ≡ b .count + 1
-  held-segments h k = rw (length-take-le (b .count) (b .segments) (omega arith), add-one)
+  pub held-segment : b .count ≤ 6 → length (b .segments) ≡ 6 → (j : ℕ) → j ≤ b .count → j < length (supplyOf (bidEntries b))
+  held-segment few held j h = rw (length-take-le (b .count) (b .segments) (omega arith)) (omega arith)
+
+-- The search from no choice and no division.
+pub from-nothing : (demand : ℕ) (supplies : List (List Segment)) (n : ℕ) (c : Choice) (best : Best) → c .count ≡ 0 → best .found ≡ false
+    → search demand supplies (chosen c) (found n best) ≡ searched demand supplies
+from-nothing demand supplies n c best e f = rw (nothing-chosen c e, f)

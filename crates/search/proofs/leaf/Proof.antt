@@ -1,31 +1,32 @@
+use mathlib.Core.Path.{_∙_}
 use borrow.Author.Needs.{needs}
+use Rattle.lists.proofs.Tests.{passed, failed}
+use Rattle.filling.specs.Records.{chosen, divisionIn, found}
+use Rattle.search.proofs.Steps.{unfit, fit}
 use Rattle.search.proofs.leaf.Statement.{statement}
 use Rattle.search.proofs.leaf.Tie as tie
-use Rattle.search.proofs.leaf.Reads as reads
-use Rattle.search.proofs.leaf.Lts as lts
-use Rattle.filling.proofs.fill.Reads as fill-reads
-use Rattle.filling.proofs.fits.Reads as fits-reads
-use Rattle.search.proofs.pick.Reads as pick-reads
 
--- src/lib.rt:81:9
 fits-requires : tie.Need-fits-requires
 fits-requires c κs = search needs
 
--- src/lib.rt:82:9
 returns : tie.Need-returns
-returns c = ?
+returns c =
+    let a = c .before .before .args in
+    unfit (a .demand .0) (chosen (a .c)) (found (a .c .count) (a .best)) (failed (c .before .fits2 .ensures) (c .if1 .taken))
 
--- src/lib.rt:85:9
 fill-requires : tie.Need-fill-requires
-fill-requires c κs = ?
+fill-requires c κs = (c .before .before .pre, passed (c .before .fits2 .ensures) (c .if1 .left))
 
--- src/lib.rt:86:5
 pick-requires : tie.Need-pick-requires
 pick-requires c κs = search needs
 
--- src/lib.rt:77:1
 returns-2 : tie.Need-returns-2
-returns-2 c = ?
+returns-2 c =
+    let new = c .before .fill in
+    let e = c .before .before in
+    let a = e .before .before .args in
+    let fitting = passed (e .before .fits2 .ensures) (e .if1 .left) in
+    c .pick .ensures ∙ fit (a .demand .0) (chosen (a .c)) (found (a .c .count) (a .best)) fitting (divisionIn (a .c .count) (new .result)) (new .ensures .1)
 
 pub leaf-spec : {M : Type 1} → statement M
 leaf-spec = tie.close (tie.spec fits-requires returns fill-requires pick-requires returns-2)
