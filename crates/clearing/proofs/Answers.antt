@@ -22,6 +22,13 @@ use Rattle.award.specs.Award.{noRow}
 use Rattle.clearing.specs.declared.Clearing.{Clearing}
 use Rattle.clearing.specs.Clearing.{awardOfBook, bookWithout, totalOf, totalWithout, rowsFrom, awardRecord, refusedClearing, clearedBook, clearOf}
 
+-- what clearing gives with these rows, where a division was found
+abbrev awarded : Book → Best → List Row → Clearing
+awarded book best rows = record {
+  verdict = Accepted;
+  award = record { demand = book .demand; total = best .total; count = book .count; rows = rows };
+}
+
 -- The search's answer for a record: a division, or that there is none.
 module _ (book : Book) (best : Best) (searched : found (book .count) best ≡ awardOf (book .demand .0) (suppliesOf (bookEntries book .bids))) where
   award-some : best .found ≡ true → awardOfBook (bookEntries book) ≡ some (divisionIn (book .count) best)
@@ -56,9 +63,7 @@ module _ (book : Book) (best : Best) (searched : found (book .count) best ≡ aw
 
     pub clear-award : best .found ≡ true → (rows : List Row)
         → rows ≡ padded 8 noRow (rowsFrom (bookEntries book) 0 (bookEntries book .bids) (take (book .count) (blanksIn (best .quantities))))
-        → _≡_ {A = Clearing}
-          (record { verdict = Accepted; award = record { demand = book .demand; total = best .total; count = book .count; rows = rows } })
-          (clearOf (bookEntries book))
+        → awarded book best rows ≡ clearOf (bookEntries book)
     unfolding clearedBook awardRecord
     clear-award h rows e = rw e (clear-is (some (divisionIn (book .count) best)) (award-some h))
 

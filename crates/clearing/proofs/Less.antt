@@ -42,14 +42,15 @@ module _ (at : ℕ) (book : Book) (few : book .count ≤ 8) (held : length (book
       bids = removed-next at i (book .bids) (left .bids) noBid (moved .from) (omega arith) (omega (arith, moved .held)) (moved .bids);
     }
 
-    pub moved-all : book .count - 1 ≤ i → bookEntries left ≡ bookWithout at (bookEntries book)
-    unfolding bookWithout
-    moved-all h =
+    moved-bids : book .count - 1 ≤ i → map bidEntries (take (left .count) (left .bids)) ≡ removed at (map bidEntries (take (book .count) (book .bids)))
+    moved-bids h =
         let end : left .count ≡ i = omega (arith, moved .within, moved .count) in
         let all : i + 1 ≡ book .count = omega (arith, moved .within) in
-        let bids : map bidEntries (take (left .count) (left .bids)) ≡ removed at (map bidEntries (take (book .count) (book .bids))) =
-            ap (λ (n : ℕ). map bidEntries (take n (left .bids))) end
-            ∙ ap (map bidEntries) (moved .bids)
-            ∙ ap (λ (n : ℕ). map bidEntries (removed at (take n (book .bids)))) all
-            ∙ map-removed bidEntries at (take (book .count) (book .bids)) in
-        rw (bids, moved .count, moved .demand)
+        ap (λ (n : ℕ). map bidEntries (take n (left .bids))) end
+        ∙ ap (map bidEntries) (moved .bids)
+        ∙ ap (λ (n : ℕ). map bidEntries (removed at (take n (book .bids)))) all
+        ∙ map-removed bidEntries at (take (book .count) (book .bids))
+
+    pub moved-all : book .count - 1 ≤ i → bookEntries left ≡ bookWithout at (bookEntries book)
+    unfolding bookWithout
+    moved-all h = rw (moved-bids h, moved .count, moved .demand)

@@ -18,7 +18,8 @@ use Rattle.award.specs.declared.Row.{Row}
 use Rattle.award.specs.Award.{noRow, rowOf}
 use Rattle.clearing.specs.Clearing.{totalWithout, rowsFrom}
 
-length-rows : (b : BookEntries) (k : ℕ) (bids : List BidEntries) (rs : List ℕ) → length bids ≡ length rs → length (rowsFrom b k bids rs) ≡ length bids
+length-rows : (b : BookEntries) (k : ℕ) (bids : List BidEntries) (rs : List ℕ) → length bids ≡ length rs
+    → length (rowsFrom b k bids rs) ≡ length bids
 unfolding rowsFrom
 length-rows b k [] rs e = refl
 length-rows b k (bid ∷ bids) [] e = absurd (omega arith)
@@ -65,30 +66,43 @@ module _ (book : Book) (quantities : List Blanks) where
     length-all = length-rows (bookEntries book) 0 bids rs (length-bids ∙ sym length-quantities) ∙ length-bids
 
     -- the row of the bid with index i, from what the arrays hold there
-    abbrev pub row : ℕ → Row
-    row i = rowOf (bidEntries (getD (book .bids) i noBid)) (getD quantities i (record { 0 = 0 }) .0) (totalWithout (bookEntries book) i)
+    abbrev bid : ℕ → BidEntries
+    bid i = bidEntries (getD (book .bids) i noBid)
 
-    the-row : (i : ℕ) → i < book .count → getD allRows i noRow ≡ row i
-    the-row i h =
-        let bid : getD bids i (bidEntries noBid) ≡ bidEntries (getD (book .bids) i noBid) =
-            List·getD-map bidEntries (take (book .count) (book .bids)) i noBid ∙ ap bidEntries (getD-take (book .count) (book .bids) i noBid h) in
-        let r : getD rs i 0 ≡ getD quantities i (record { 0 = 0 }) .0 =
-            getD-take (book .count) (blanksIn quantities) i 0 h ∙ List·getD-map (λ (b : Blanks). b .0) quantities i (record { 0 = 0 }) in
-        row-at (bookEntries book) 0 bids rs i (bidEntries noBid) (omega (arith, length-bids)) (omega (arith, length-quantities))
-        ∙ rw (zero-add i, bid, r)
+    abbrev quantity : ℕ → ℕ
+    quantity i = getD quantities i (record { 0 = 0 }) .0
 
-    pub made-next : (rows : List Row) (i : ℕ) (r : Row) → Made rows i → i < book .count → r ≡ row i → Made (set rows i r) (i + 1)
-    made-next rows i r made h e =
-        let size : length (take i allRows) ≡ i = length-take-le i allRows (omega (arith, length-all)) in
-        let more : take (i + 1) allRows ≡ take i allRows ++ r ∷ [] =
-            rw add-one (take-suc allRows i noRow (omega (arith, length-all))) ∙ ap (λ (x : Row). take i allRows ++ x ∷ []) (the-row i h ∙ sym e) in
-        record {
-          within = omega arith;
-          so-far =
-              ap₂ (λ (l : List Row) (n : ℕ). set l n r) (made .so-far) (sym size)
-              ∙ padded-next 8 noRow (take i allRows) r (omega arith)
-              ∙ ap (padded 8 noRow) (sym more);
-        }
+    abbrev row : ℕ → Row
+    row i = rowOf (bid i) (quantity i) (totalWithout (bookEntries book) i)
+
+    module _ (i : ℕ) (more : i < book .count) where
+      the-bid : getD bids i (bidEntries noBid) ≡ bid i
+      the-bid = List·getD-map bidEntries (take (book .count) (book .bids)) i noBid ∙ ap bidEntries (getD-take (book .count) (book .bids) i noBid more)
+
+      the-quantity : getD rs i 0 ≡ quantity i
+      the-quantity =
+          getD-take (book .count) (blanksIn quantities) i 0 more ∙ List·getD-map (λ (b : Blanks). b .0) quantities i (record { 0 = 0 })
+
+      the-row : getD allRows i noRow ≡ row i
+      the-row =
+          row-at (bookEntries book) 0 bids rs i (bidEntries noBid) (omega (arith, length-bids)) (omega (arith, length-quantities))
+          ∙ rw (zero-add i, the-bid, the-quantity)
+
+      one-more : take (i + 1) allRows ≡ take i allRows ++ row i ∷ []
+      one-more =
+          rw add-one (take-suc allRows i noRow (omega (arith, length-all)))
+          ∙ ap (λ (r : Row). take i allRows ++ r ∷ []) the-row
+
+      pub made-next : (rows : List Row) (r : Row) → Made rows i → r ≡ row i → Made (set rows i r) (i + 1)
+      made-next rows r made e =
+          let size : length (take i allRows) ≡ i = length-take-le i allRows (omega (arith, length-all)) in
+          record {
+            within = omega arith;
+            so-far =
+                ap₂ (λ (l : List Row) (n : ℕ). set l n r) (made .so-far) (sym size)
+                ∙ padded-next 8 noRow (take i allRows) r (omega arith)
+                ∙ rw e (ap (padded 8 noRow) (sym one-more));
+          }
 
     pub made-all : (rows : List Row) (i : ℕ) → Made rows i → book .count ≤ i → rows ≡ padded 8 noRow allRows
     made-all rows i made h = made .so-far ∙ ap (padded 8 noRow) (take-all i allRows (omega (arith, length-all)))

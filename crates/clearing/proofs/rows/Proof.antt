@@ -54,9 +54,7 @@ array-copy-out-quantity : tie.Need-array-copy-out-quantity Inv-loop μ-loop
 array-copy-out-quantity c = omega (arith, few (c .before .before .before .before))
 
 total-without-requires : tie.Need-total-without-requires Inv-loop μ-loop
-total-without-requires c κs =
-    let l = c .before .before in
-    (l .before .before .before .pre, omega arith)
+total-without-requires c κs = (c .before .before .before .before .before .pre, omega arith)
 
 row-of-requires : tie.Need-row-of-requires Inv-loop μ-loop
 row-of-requires c κs = let kept = this-accepted (c .before .before .before) in (kept .count-high, kept .ranges)
@@ -79,7 +77,7 @@ loop-again c =
     let at = l .before .loop in
     let s = l .before .before .before in
     let row = c .row-of .ensures ∙ ap (rowOf _ _) (c .before .total-without .ensures) in
-    made-next (s .args .t1) (s .args .t2) (few s) (held s) (quantities-held s) (at .rows) (at .i) _ (at .inv) (l .loop-test .taken) row
+    made-next (s .args .t1) (s .args .t2) (few s) (held s) (quantities-held s) (at .i) (l .loop-test .taken) (at .rows) _ (at .inv) row
 
 returns : tie.Need-returns Inv-loop μ-loop
 returns c =
