@@ -18,14 +18,14 @@ use Rattle.award.specs.declared.Row.{Row}
 use Rattle.award.specs.Award.{noRow, rowOf}
 use Rattle.clearing.specs.Clearing.{totalWithout, rowsFrom}
 
-length-rows : (b : BookEntries) (k : ℕ) (bids : List BidEntries) (rs : List ℕ) → length bids ≡ length rs
+pub length-rows : (b : BookEntries) (k : ℕ) (bids : List BidEntries) (rs : List ℕ) → length bids ≡ length rs
     → length (rowsFrom b k bids rs) ≡ length bids
 unfolding rowsFrom
 length-rows b k [] rs e = refl
 length-rows b k (bid ∷ bids) [] e = absurd (omega arith)
 length-rows b k (bid ∷ bids) (r ∷ rs) e = ap suc (length-rows b (suc k) bids rs (omega arith))
 
-row-at : (b : BookEntries) (k : ℕ) (bids : List BidEntries) (rs : List ℕ) (i : ℕ) (d : BidEntries) → i < length bids → i < length rs
+pub row-at : (b : BookEntries) (k : ℕ) (bids : List BidEntries) (rs : List ℕ) (i : ℕ) (d : BidEntries) → i < length bids → i < length rs
     → getD (rowsFrom b k bids rs) i noRow ≡ rowOf (getD bids i d) (getD rs i 0) (totalWithout b (k + i))
 unfolding rowsFrom
 row-at b k [] rs i d h l = absurd (not-suc-le-zero h)
