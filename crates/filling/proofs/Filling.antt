@@ -64,75 +64,74 @@ pub record Filling (xs : List Segment) (n all left : ℕ) (quantities : List Bla
   pub cost : total +ℤ costFrom left (latest noSegment xs i) ≡ costFrom all (latest noSegment xs n)
   pub given : reverseAux (givenFrom left (latest noSegment xs i)) (slice i n (blanksIn quantities)) ≡ reverse (givenFrom all (latest noSegment xs n))
 
-module _ (xs : List Segment) (n all : ℕ) where
-  pub filling-none : (quantities : List Blanks) → length quantities ≡ 8 → Filling xs n all all quantities (pos 0) n
-  filling-none quantities h = record {
-    within = omega arith;
-    held = h;
-    size = omega arith;
-    cost = +ℤ-idl (costFrom all (latest noSegment xs n));
-    given = rw (slice-empty n (blanksIn quantities));
-  }
+pub filling-none : (xs : List Segment) (n all : ℕ) (quantities : List Blanks) → length quantities ≡ 8 → Filling xs n all all quantities (pos 0) n
+filling-none xs n all quantities h = record {
+  within = omega arith;
+  held = h;
+  size = omega arith;
+  cost = +ℤ-idl (costFrom all (latest noSegment xs n));
+  given = rw (slice-empty n (blanksIn quantities));
+}
 
-  module _ (left : ℕ) (quantities : List Blanks) (total : ℤ) (i : ℕ) (filling : Filling xs n all left quantities total i) where
-    -- the bidder before gets its share
-    module _ (k : ℕ) (is-next : i ≡ suc k) (few : n ≤ 8) (sound : SoundSegment (getD xs k noSegment)) where
-      abbrev this : Segment
-      this = getD xs k noSegment
+module _ {xs : List Segment} {n all left : ℕ} {quantities : List Blanks} {total : ℤ} {i : ℕ} (filling : Filling xs n all left quantities total i) where
+  -- the bidder before gets its share
+  module _ (k : ℕ) (is-next : i ≡ suc k) (few : n ≤ 8) (sound : SoundSegment (getD xs k noSegment)) where
+    abbrev this : Segment
+    this = getD xs k noSegment
 
-      abbrev earlier : List Segment
-      earlier = latest noSegment xs k
+    abbrev earlier : List Segment
+    earlier = latest noSegment xs k
 
-      here : latest noSegment xs i ≡ this ∷ earlier
-      here = ap (latest noSegment xs) is-next ∙ latest-next noSegment xs k
+    here : latest noSegment xs i ≡ this ∷ earlier
+    here = ap (latest noSegment xs) is-next ∙ latest-next noSegment xs k
 
-      module _ (x : ℕ) (is-share : x ≡ share left this earlier) (p : ℤ) (is-price : p ≡ priceOn this (this .start .0 + x)) where
-        total-small : natAbs (total +ℤ p) + mostCents * k ≤ mostCents * n
-        total-small =
-            let few-blanks : this .start .0 + x ≤ this .end .0 = rw is-share (share-end left this earlier (sound .order)) in
-            let price-high : natAbs p ≤ mostCents = rw is-price (price-small this (this .start .0 + x) sound few-blanks) in
-            omega (arith, natAbs-plus total p, filling .size)
+    module _ (x : ℕ) (is-share : x ≡ share left this earlier) (p : ℤ) (is-price : p ≡ priceOn this (this .start .0 + x)) where
+      total-small : natAbs (total +ℤ p) + mostCents * k ≤ mostCents * n
+      total-small =
+          let few-blanks : this .start .0 + x ≤ this .end .0 = rw is-share (share-end left this earlier (sound .order)) in
+          let price-high : natAbs p ≤ mostCents = rw is-price (price-small this (this .start .0 + x) sound few-blanks) in
+          omega (arith, natAbs-plus total p, filling .size)
 
-        pub total-fits : SFits w64 (total +ℤ p)
-        total-fits = small-fits (total +ℤ p) (omega (arith, total-small))
+      pub total-fits : SFits w64 (total +ℤ p)
+      total-fits = small-fits (total +ℤ p) (omega (arith, total-small))
 
-        next-cost : (total +ℤ p) +ℤ costFrom (left - x) earlier ≡ costFrom all (latest noSegment xs n)
-        next-cost =
-            rw (is-price, is-share)
-            (+ℤ-assoc total (priceOn this (this .start .0 + share left this earlier)) (costFrom (left - share left this earlier) earlier)
-            ∙ rw here at (filling .cost))
+      next-cost : (total +ℤ p) +ℤ costFrom (left - x) earlier ≡ costFrom all (latest noSegment xs n)
+      next-cost =
+          rw (is-price, is-share)
+          (+ℤ-assoc total (priceOn this (this .start .0 + share left this earlier)) (costFrom (left - share left this earlier) earlier)
+          ∙ rw here at (filling .cost))
 
-        module _ (q : Blanks) (is-quantity : q .0 ≡ this .start .0 + x) where
-          stored : slice k n (blanksIn (set quantities k q)) ≡ (this .start .0 + x) ∷ slice i n (blanksIn quantities)
-          stored =
-              let held : n ≤ length (blanksIn quantities) = rw length-map (omega (arith, filling .held)) in
-              let below : k < n = omega (arith, filling .within) in
-              rw (map-set, slice-set (blanksIn quantities) k n (q .0) below held, is-quantity, is-next, add-one)
+      module _ (q : Blanks) (is-quantity : q .0 ≡ this .start .0 + x) where
+        stored : slice k n (blanksIn (set quantities k q)) ≡ (this .start .0 + x) ∷ slice i n (blanksIn quantities)
+        stored =
+            let held : n ≤ length (blanksIn quantities) = rw length-map (omega (arith, filling .held)) in
+            let below : k < n = omega (arith, filling .within) in
+            rw (map-set, slice-set (blanksIn quantities) k n (q .0) below held, is-quantity, is-next, add-one)
 
-          next-given : reverseAux (givenFrom (left - x) earlier) (slice k n (blanksIn (set quantities k q))) ≡ reverse (givenFrom all (latest noSegment xs n))
-          next-given = rw (stored, is-share) (rw here at (filling .given))
+        next-given : reverseAux (givenFrom (left - x) earlier) (slice k n (blanksIn (set quantities k q))) ≡ reverse (givenFrom all (latest noSegment xs n))
+        next-given = rw (stored, is-share) (rw here at (filling .given))
 
-          pub filling-next : (total′ : ℤ) → total′ ≡ total +ℤ p → Filling xs n all (left - x) (set quantities k q) total′ k
-          filling-next total′ e = record {
-            within = omega (arith, filling .within);
-            held = rw length-set (filling .held);
-            size = rw e total-small;
-            cost = rw e next-cost;
-            given = next-given;
-          }
+        pub filling-next : (total′ : ℤ) → total′ ≡ total +ℤ p → Filling xs n all (left - x) (set quantities k q) total′ k
+        filling-next total′ e = record {
+          within = omega (arith, filling .within);
+          held = rw length-set (filling .held);
+          size = rw e total-small;
+          cost = rw e next-cost;
+          given = next-given;
+        }
 
-    -- every bidder has its share
-    module _ (none-left : i ≡ 0) where
-      last : latest noSegment xs i ≡ []
-      last = ap (latest noSegment xs) none-left ∙ latest-none noSegment xs
+  -- every bidder has its share
+  module _ (none-left : i ≡ 0) where
+    last : latest noSegment xs i ≡ []
+    last = ap (latest noSegment xs) none-left ∙ latest-none noSegment xs
 
-      all-cost : total ≡ costFrom all (latest noSegment xs n)
-      all-cost = sym (+ℤ-idr total) ∙ rw last at (filling .cost)
+    all-cost : total ≡ costFrom all (latest noSegment xs n)
+    all-cost = sym (+ℤ-idr total) ∙ rw last at (filling .cost)
 
-      all-given : take n (blanksIn quantities) ≡ reverse (givenFrom all (latest noSegment xs n))
-      all-given = rw none-left at (rw last at (filling .given))
+    all-given : take n (blanksIn quantities) ≡ reverse (givenFrom all (latest noSegment xs n))
+    all-given = rw none-left at (rw last at (filling .given))
 
-      pub filling-all : (demand : ℕ) → all ≡ demand - starts (latest noSegment xs n)
-          → _≡_ {A = Priced} (record { cost = total; quantities = take n (blanksIn quantities) }) (filled demand (latest noSegment xs n))
-      unfolding filled
-      filling-all demand e = rw (all-cost, all-given, e)
+    pub filling-all : (demand : ℕ) → all ≡ demand - starts (latest noSegment xs n)
+        → _≡_ {A = Priced} (record { cost = total; quantities = take n (blanksIn quantities) }) (filled demand (latest noSegment xs n))
+    unfolding filled
+    filling-all demand e = rw (all-cost, all-given, e)

@@ -19,20 +19,19 @@ pub record Summed (f : List Segment → ℕ) (xs : List Segment) (n i sum : ℕ)
   pub size : sum ≤ 1000000 * i
   pub value : sum ≡ f (latest noSegment xs i)
 
--- f adds w up
-module _ (f : List Segment → ℕ) (xs : List Segment) (n : ℕ) where
-  pub summed-none : f [] ≡ 0 → Summed f xs n 0 0
-  summed-none e = record { within = omega arith; size = omega arith; value = sym (ap f (latest-none noSegment xs) ∙ e) }
+pub summed-none : (f : List Segment → ℕ) (xs : List Segment) (n : ℕ) → f [] ≡ 0 → Summed f xs n 0 0
+summed-none f xs n e = record { within = omega arith; size = omega arith; value = sym (ap f (latest-none noSegment xs) ∙ e) }
 
-  module _ (i sum : ℕ) (summed : Summed f xs n i sum) where
-    pub summed-next : (sum′ w : ℕ) → f (getD xs i noSegment ∷ latest noSegment xs i) ≡ w + f (latest noSegment xs i) → i < n → w ≤ 1000000
-        → sum′ ≡ sum + w → Summed f xs n (i + 1) sum′
-    summed-next sum′ w next more high e =
-        let here : f (latest noSegment xs (i + 1)) ≡ w + f (latest noSegment xs i) = rw add-one (ap f (latest-next noSegment xs i) ∙ next) in
-        record { within = omega arith; size = omega (arith, summed .size); value = omega (arith, summed .value) }
+module _ {f : List Segment → ℕ} {xs : List Segment} {n i sum : ℕ} (summed : Summed f xs n i sum) where
+  -- the next segment adds w
+  pub summed-next : (sum′ w : ℕ) → f (getD xs i noSegment ∷ latest noSegment xs i) ≡ w + f (latest noSegment xs i) → i < n → w ≤ 1000000
+      → sum′ ≡ sum + w → Summed f xs n (i + 1) sum′
+  summed-next sum′ w next more high e =
+      let here : f (latest noSegment xs (i + 1)) ≡ w + f (latest noSegment xs i) = rw add-one (ap f (latest-next noSegment xs i) ∙ next) in
+      record { within = omega arith; size = omega (arith, summed .size); value = omega (arith, summed .value) }
 
-    pub summed-all : n ≤ i → sum ≡ f (latest noSegment xs n)
-    summed-all h = let e : i ≡ n = omega (arith, summed .within) in summed .value ∙ ap (λ (k : ℕ). f (latest noSegment xs k)) e
+  pub summed-all : n ≤ i → sum ≡ f (latest noSegment xs n)
+  summed-all h = let e : i ≡ n = omega (arith, summed .within) in summed .value ∙ ap (λ (k : ℕ). f (latest noSegment xs k)) e
 
 -- a segment of a sound choice
 pub sound-at : (xs : List Segment) (n i : ℕ) → All SoundSegment (latest noSegment xs n) → i < n → SoundSegment (getD xs i noSegment)

@@ -19,13 +19,6 @@ use Rattle.filling.specs.Records.{blanksIn, divisionIn, found}
 abbrev pub noBlanks : Blanks
 noBlanks = record { 0 = 0 }
 
-ltb-not : (a b : ℕ) → ltb a b ≡ not (leb b a)
-ltb-not a b = go (leb b a) refl
-  where
-    go : (t : Bool) → leb b a ≡ t → ltb a b ≡ not t
-    go true e = le-ltb a b (leb-true b a e)
-    go false e = lt-ltb a b (leb-false b a e)
-
 -- Quantities, along a loop through two arrays: whether the first gives more from bidder i on.
 
 abbrev pub moreFrom : ℕ → ℕ → List Blanks → List Blanks → Bool
@@ -61,6 +54,13 @@ unfolding givesMore
 no-more a b i n h k = rw (slice-done (blanksIn a) i n h k)
 
 -- Costs: the code asks whether each is at most the other.
+
+ltb-not : (a b : ℕ) → ltb a b ≡ not (leb b a)
+ltb-not a b = go (leb b a) refl
+  where
+    go : (t : Bool) → leb b a ≡ t → ltb a b ≡ not t
+    go true e = le-ltb a b (leb-true b a e)
+    go false e = lt-ltb a b (leb-false b a e)
 
 less-not : (a b : ℤ) → ltZ a b ≡ not (leZ b a)
 less-not (pos a) (pos b) = ltb-not a b

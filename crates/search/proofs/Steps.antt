@@ -54,7 +54,8 @@ module _ (demand : ℕ) (c : List Segment) (o : Option Priced) where
   fit e d f = rw (e, f)
 
 -- for as many bidders as the book has
-pub for-all : (n m : ℕ) (r best : Best) (f : Option Priced → Option Priced) → n ≡ m → found n r ≡ f (found n best) → found m r ≡ f (found m best)
+pub for-all : (n m : ℕ) (r best : Best) (f : Option Priced → Option Priced) → n ≡ m → found n r ≡ f (found n best)
+    → found m r ≡ f (found m best)
 for-all n m r best f e h = subst (λ (k : ℕ). found k r ≡ f (found k best)) e h
 
 -- A bidder's segments, from the last to the first.
@@ -63,8 +64,8 @@ module _ (f : Segment → Option Priced → Option Priced) (ss : List Segment) (
   unfolding each
   each-none j h = rw (drop-of-length-le ss h)
 
-  pub each-next : (j k : ℕ) → j ≡ suc k → k < length ss → (r r′ : Option Priced) → r ≡ each f (drop j ss) o → r′ ≡ f (getD ss k segment0) r
-      → r′ ≡ each f (drop k ss) o
+  pub each-next : (j k : ℕ) → j ≡ suc k → k < length ss → (r r′ : Option Priced) → r ≡ each f (drop j ss) o
+      → r′ ≡ f (getD ss k segment0) r → r′ ≡ each f (drop k ss) o
   unfolding each
   each-next j k e h r r′ p q = rw (drop-cons ss k segment0 h) (q ∙ ap (f (getD ss k segment0)) (rw e at p))
 

@@ -53,18 +53,14 @@ loop-again c =
     let l = c .before .before .before in
     let high = here l in
     let a = l .before .before .args in
-    let at = l .before .loop in
-    let next = summed-next (cheaper (a .unit)) (a .t1 .segments) (a .n) (at .i) (at .sum) (at .inv) (c .if1 .sum) (widthAt (a .unit) (this l)) refl (l .loop-test .taken) in
+    let next = summed-next (l .before .loop .inv) (c .if1 .sum) (widthAt (a .unit) (this l)) refl (l .loop-test .taken) in
     ⊎-elim
-    (λ w. let e = width-counts (a .unit) (this l) (w .0 .taken) in next (omega arith) (omega arith))
-    (λ w. let e = dearer (a .unit) (this l) (w .0 .left) in next (omega arith) (omega arith))
+    (λ w. let e = width-counts (a .unit) (this l) (omega (arith, w .0 .taken)) in next (omega arith) (omega arith))
+    (λ w. let e = dearer (a .unit) (this l) (omega (arith, w .0 .left)) in next (omega arith) (omega arith))
     (c .if1 .came)
 
 returns : tie.Need-returns Inv-loop μ-loop
-returns c =
-    let a = c .before .before .args in
-    let at = c .before .loop in
-    summed-all (cheaper (a .unit)) (a .t1 .segments) (a .n) (at .i) (at .sum) (at .inv) (c .loop-test .left)
+returns c = summed-all (c .before .loop .inv) (c .loop-test .left)
 
 pub cheaper-spec : {M : Type 1} → statement M
 cheaper-spec =

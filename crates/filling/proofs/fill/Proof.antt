@@ -1,4 +1,4 @@
-use Prim.Native.Nat.{ℕ, suc, _+_, _-_, _≤_}
+use Prim.Native.Nat.{ℕ, suc, _+_, _-_, _≤_, _<_}
 use native.Mathlib.Omega.{arith}
 use mathlib.Core.Path.{_≡_, refl, ap}
 use borrow.Author.Needs.{needs}
@@ -31,7 +31,8 @@ next c = omega (arith, c .loop-test .taken)
 sound : (c : tie.In-loop Inv-loop μ-loop) → SoundSegment (this c)
 sound c =
     let s = c .before .before .before .before in
-    sound-at (s .args .t1 .segments) (s .args .t1 .count) (c .before .loop .i - 1) (s .pre .0 .each) (omega (arith, c .loop-test .taken, c .before .loop .inv .within))
+    let below : c .before .loop .i - 1 < s .args .t1 .count = omega (arith, c .loop-test .taken, c .before .loop .inv .within) in
+    sound-at (s .args .t1 .segments) (s .args .t1 .count) (c .before .loop .i - 1) (s .pre .0 .each) below
 
 within-end : (c : tie.After-share Inv-loop μ-loop) → this (c .before .before) .start .0 + c .share .result ≤ this (c .before .before) .end .0
 within-end c =
@@ -88,9 +89,9 @@ plus-requires : tie.Need-plus-requires Inv-loop μ-loop
 plus-requires c κs =
     let x = c .before .before .before .before in
     let l = x .before .before in
-    let s = l .before .before .before .before in
+    let few = l .before .before .before .before .pre .0 .few in
     let at = l .before .loop in
-    total-fits (s .args .t1 .segments) (s .args .t1 .count) _ (at .left) (at .quantities) (at .total .0) (at .i) (at .inv) (at .i - 1) (next l) (s .pre .0 .few) (sound l) (x .share .result) (x .share .ensures) (c .price .result .0) (c .price .ensures)
+    total-fits (at .inv) (at .i - 1) (next l) few (sound l) (x .share .result) (x .share .ensures) (c .price .result .0) (c .price .ensures)
 
 loop-less : tie.Need-loop-less Inv-loop μ-loop
 loop-less c = search needs
@@ -100,16 +101,15 @@ loop-again c =
     let p = c .before .price in
     let x = c .before .before .before .before .before in
     let l = x .before .before in
-    let s = l .before .before .before .before in
+    let few = l .before .before .before .before .pre .0 .few in
     let at = l .before .loop in
-    filling-next (s .args .t1 .segments) (s .args .t1 .count) _ (at .left) (at .quantities) (at .total .0) (at .i) (at .inv) (at .i - 1) (next l) (s .pre .0 .few) (sound l) (x .share .result) (x .share .ensures) (p .result .0) (p .ensures) _ refl (c .plus .result .0) (c .plus .ensures)
+    filling-next (at .inv) (at .i - 1) (next l) few (sound l) (x .share .result) (x .share .ensures) (p .result .0) (p .ensures) _ refl (c .plus .result .0) (c .plus .ensures)
 
 returns : tie.Need-returns Inv-loop μ-loop
 returns c =
     let s = c .before .before .before .before .args in
-    let at = c .before .loop in
     let all = ap (λ (low : ℕ). s .demand .0 - low) (c .before .before .before .starts .ensures) in
-    (refl, filling-all (s .t1 .segments) (s .t1 .count) _ (at .left) (at .quantities) (at .total .0) (at .i) (at .inv) (omega arith) (s .demand .0) all)
+    (refl, filling-all (c .before .loop .inv) (omega arith) (s .demand .0) all)
 
 pub fill-spec : {M : Type 1} → statement M
 fill-spec =

@@ -21,7 +21,8 @@ returns-2 c =
     let high = c .before in
     let low = high .before .before .before in
     let a = low .before .args in
-    not-too-many (a .demand .0) (chosen (a .c)) (low .starts .result) (low .starts .ensures) (high .ends .result) (high .ends .ensures) (high .before .if1 .left)
+    let within = high .before .if1 .left in
+    not-too-many (a .demand .0) (chosen (a .c)) (low .starts .result) (low .starts .ensures) (high .ends .result) (high .ends .ensures) within
 
 pub fits-spec : {M : Type 1} → statement M
 fits-spec = tie.close (tie.spec starts-requires returns ends-requires returns-2)

@@ -46,13 +46,10 @@ loop-again c =
     let high = here l in
     let s = l .before .before .args .t1 in
     let at = l .before .loop in
-    summed-next starts (s .segments) (s .count) (at .i) (at .sum) (at .inv) _ (getD (s .segments) (at .i) noSegment .start .0) refl (l .loop-test .taken) (omega arith) refl
+    summed-next (at .inv) _ (getD (s .segments) (at .i) noSegment .start .0) refl (l .loop-test .taken) (omega arith) refl
 
 returns : tie.Need-returns Inv-loop μ-loop
-returns c =
-    let s = c .before .before .args .t1 in
-    let at = c .before .loop in
-    summed-all starts (s .segments) (s .count) (at .i) (at .sum) (at .inv) (c .loop-test .left)
+returns c = summed-all (c .before .loop .inv) (c .loop-test .left)
 
 pub starts-spec : {M : Type 1} → statement M
 starts-spec =

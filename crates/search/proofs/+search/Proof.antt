@@ -47,9 +47,9 @@ R t = (
 
 abbrev search-Inv-loop : search-lts.InvT-loop
 search-Inv-loop at c book bid so-far₀ j₀ so-far j =
-    (j ≤ bid .count + 1)
-    × (found (book .count) so-far
-    ≡ each (tried (book .demand .0) (drop (at + 1) (suppliesOf (bookEntries book .bids))) (chosen c)) (drop j (supplyOf (bidEntries bid))) (found (book .count) so-far₀))
+    let later = drop (at + 1) (suppliesOf (bookEntries book .bids)) in
+    let from = drop j (supplyOf (bidEntries bid)) in
+    (j ≤ bid .count + 1) × (found (book .count) so-far ≡ each (tried (book .demand .0) later (chosen c)) from (found (book .count) so-far₀))
 
 abbrev search-μ-loop : search-lts.MeasureT-loop
 search-μ-loop at c book bid so-far₀ j₀ so-far j = j
@@ -144,8 +144,9 @@ search-loop-again t c =
     let a = e .before .args in
     let b = bid t e in
     let next : i .j ≡ suc (i .j - 1) = omega (arith, l .loop-test .taken) in
-    (omega (arith, i .inv .0),
-    each-next _ (supplyOf (bidEntries b)) _ (i .j) (i .j - 1) next (tried-next .1 .0) (found (a .t1 .count) (i .so-far)) _ (i .inv .1) (rw (chosen-next, tried-next .0) at (c .search .ensures)))
+    let found-next = rw (chosen-next, tried-next .0) at (c .search .ensures) in
+    let again = each-next _ (supplyOf (bidEntries b)) _ (i .j) (i .j - 1) next (tried-next .1 .0) (found (a .t1 .count) (i .so-far)) _ (i .inv .1) found-next in
+    (omega (arith, i .inv .0), again)
 
 search-returns-2 : (t : ℕ) → search-lts.Need-returns-2 (R t) (search-at t) search′.Post search-Inv-loop search-μ-loop
 search-returns-2 t c =

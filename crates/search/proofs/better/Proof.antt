@@ -30,8 +30,9 @@ returns-3 c =
     let f = c .before .before .before in
     let e = f .before .before in
     let a = e .before .before .before .before .args in
-    let tie = as-cheap (divisionIn (a .n) (a .a)) (divisionIn (a .n) (a .b)) (passed (e .before .at-most .ensures) (e .if1 .left)) (passed (f .before .at-most2 .ensures) (f .if2 .left)) in
-    c .gives-more .ensures ∙ sym tie
+    let at-most = passed (e .before .at-most .ensures) (e .if1 .left) in
+    let at-least = passed (f .before .at-most2 .ensures) (f .if2 .left) in
+    c .gives-more .ensures ∙ sym (as-cheap (divisionIn (a .n) (a .a)) (divisionIn (a .n) (a .b)) at-most at-least)
 
 pub better-spec : {M : Type 1} → statement M
 better-spec = tie.close (tie.spec at-most-requires returns at-most-requires-2 returns-2 gives-more-requires returns-3)
