@@ -2,6 +2,7 @@
 ghost use mathlib.Core.Path.{_≡_};
 ghost use mathlib.Core.Bool.{true};
 ghost use Prim.Native.Nat.{_≤_, _<_};
+ghost use lib.Dec.{leb};
 ghost use lib.ListN.{getD};
 ghost use Rattle.lists.proofs.Latest.{latest};
 ghost use Rattle.book.proofs.Records.{noSegment};
@@ -65,6 +66,14 @@ pub fn fits(c: Choice, demand: Blanks) -> bool
     demand.0 <= ends(c)
 }
 
+// Whether a further blank costs no more on s than `unit`. Its unit price decides, and not what its
+// blanks cost on average.
+fn no_dearer(s: Segment, unit: u64) -> bool
+    ensures { λ r. ⌜ r ≡ leb (s .unit .0) unit ⌝ }
+{
+    s.unit.0 <= unit
+}
+
 // What the first n of the chosen segments can take over their starts, of those that are no dearer
 // than `unit`.
 fn cheaper(c: Choice, n: usize, unit: u64) -> u64
@@ -76,7 +85,7 @@ fn cheaper(c: Choice, n: usize, unit: u64) -> u64
     let mut i: usize = 0;
     while i < n {
         let s = c.segments[i];
-        if s.unit.0 <= unit {
+        if no_dearer(s, unit) {
             sum += s.end.0 - s.start.0;
         }
         i += 1;

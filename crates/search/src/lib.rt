@@ -60,19 +60,19 @@ fn better(a: Best, b: Best, n: usize) -> bool
     gives_more(quantities, others, n)
 }
 
-// The better of the best so far, if there is one, and a new division.
-fn pick(best: Best, new: Best, n: usize) -> Best
+// The better of the division kept so far, if there is one, and a new one.
+fn pick(kept: Best, new: Best, n: usize) -> Best
     requires { ⌜ n ≤ 8 ⌝ }
     requires { ⌜ new .found ≡ true ⌝ }
-    ensures { λ r. ⌜ found n r ≡ pick (found n best) (divisionIn n new) ⌝ }
+    ensures { λ r. ⌜ found n r ≡ pick (found n kept) (divisionIn n new) ⌝ }
 {
-    if !best.found {
+    if !kept.found {
         return new;
     }
-    if better(new, best, n) {
-        return new;
+    if !better(new, kept, n) {
+        return kept;
     }
-    best
+    new
 }
 
 // A complete choice: its division is compared with the best so far, if it has one.

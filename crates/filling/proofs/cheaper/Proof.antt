@@ -1,8 +1,9 @@
 use Prim.Native.Nat.{_-_}
 use mathlib.Core.Logic.{⊎-elim}
-use mathlib.Core.Path.{refl}
+use mathlib.Core.Path.{refl, sym, _∙_}
 use native.Mathlib.Omega.{arith}
 use borrow.Author.Needs.{needs}
+use borrow.Author.Tests.{leb-true, leb-false}
 use lib.ListN.{getD}
 use Rattle.book.specs.declared.Segment.{Segment}
 use Rattle.book.proofs.Records.{noSegment}
@@ -36,6 +37,9 @@ mul-s c = search needs
 element-copy-out-s : tie.Need-element-copy-out-s Inv-loop μ-loop
 element-copy-out-s c = search needs
 
+no-dearer-requires : tie.Need-no-dearer-requires Inv-loop μ-loop
+no-dearer-requires c κs = search needs
+
 sub-sum : tie.Need-sub-sum Inv-loop μ-loop
 sub-sum c = here (c .before .before .before .before) .order
 
@@ -52,11 +56,12 @@ loop-again : tie.Need-loop-again Inv-loop μ-loop
 loop-again c =
     let l = c .before .before .before in
     let high = here l in
+    let test = sym (c .before .no-dearer .ensures) in
     let a = l .before .before .args in
     let next = summed-next (l .before .loop .inv) (c .if1 .sum) (widthAt (a .unit) (this l)) refl (l .loop-test .taken) in
     ⊎-elim
-    (λ w. let e = width-counts (a .unit) (this l) (omega (arith, w .0 .taken)) in next (omega arith) (omega arith))
-    (λ w. let e = dearer (a .unit) (this l) (omega (arith, w .0 .left)) in next (omega arith) (omega arith))
+    (λ w. let e = width-counts (a .unit) (this l) (leb-true _ _ (test ∙ w .0 .taken)) in next (omega arith) (omega arith))
+    (λ w. let e = dearer (a .unit) (this l) (leb-false _ _ (test ∙ w .0 .left)) in next (omega arith) (omega arith))
     (c .if1 .came)
 
 returns : tie.Need-returns Inv-loop μ-loop
@@ -71,6 +76,7 @@ cheaper-spec =
     loop-holds
     mul-s
     element-copy-out-s
+    no-dearer-requires
     sub-sum
     add-sum
     add-i
