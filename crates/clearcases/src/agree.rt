@@ -75,7 +75,7 @@ fn row_agrees(row: Row, book: Book, best: Cheapest, i: usize, n: usize) -> bool 
         return false;
     }
     let without = row.without;
-    without_agrees(without, splits::cheapest(less(book, i, n - 1)))
+    without_agrees(without, splits::clear(less(book, i, n - 1)))
 }
 
 fn blank(row: Row) -> bool {

@@ -1,4 +1,5 @@
 // Books put together from segments and bids; the book of document 01, section "The bid book".
+ghost use mathlib.Core.Path.{_≡_};
 use book::Bid;
 use book::Book;
 use book::Segment;
@@ -6,7 +7,9 @@ use money::Blanks;
 use money::Cents;
 use money::CentsPerBlank;
 
-pub fn segment(start: u64, end: u64, unit: u64, fixed: i64) -> Segment {
+pub fn segment(start: u64, end: u64, unit: u64, fixed: i64) -> Segment
+    ensures { λ r. ⌜ r .end .0 ≡ end ⌝ }
+{
     Segment {
         start: Blanks(start),
         end: Blanks(end),

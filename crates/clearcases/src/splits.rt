@@ -87,7 +87,7 @@ fn compared(best: Cheapest, split: u64, new: SplitPrice) -> Cheapest {
 }
 
 // The second clearing of a book. One without bids is refused as a record, and so has no split.
-pub fn cheapest(book: Book) -> Cheapest {
+pub fn clear(book: Book) -> Cheapest {
     let mut best = none();
     let mut split = splits(book.count);
     while 0 < split {
