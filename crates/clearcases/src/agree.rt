@@ -1,5 +1,5 @@
-// Whether an answer of clearing is the one that the second clearing gives: verdict, demand, total, quantities, totals
-// without each bidder, and zeros and `Nothing` everywhere else.
+// Whether clearing gives what the second clearing gives: verdict, total, quantities and the totals without each bidder; and
+// zeros and `Nothing` in the rows past the bids, which are all rows beside a refusal.
 use crate::splits;
 use crate::splits::Cheapest;
 use award::Award;
