@@ -1,3 +1,13 @@
 pub mod Choice
 pub mod Search
 pub mod Sound
+pub mod Fill
+pub mod Certificate
+pub mod Optimal
+pub mod Accepted
+pub mod Placed
+pub mod Leaves
+pub mod Chosen
+pub mod Divides
+pub mod Finds
+pub mod OneInside

@@ -54,11 +54,11 @@ fn total_without(book: Book, at: usize) -> Total
     ensures { λ r. ⌜ r ≡ totalWithout (bookEntries book) at ⌝ }
 {
     let left = without(book, at);
-    let best = search::best_division(left);
-    if !best.found {
+    let others = search::best_division(left);
+    if !others.found {
         return Total::Nothing;
     }
-    let total = best.total;
+    let total = others.total;
     Total::Amount(total)
 }
 

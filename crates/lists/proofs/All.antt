@@ -1,6 +1,6 @@
 -- What holds of every element: how it is shown, and how it carries over to other lists. Assumes nothing.
 use Prim.Native.Nat.{ℕ, zero, suc, _<_, suc-le-suc}
-use native.Mathlib.Nat.{zero-lt-suc}
+use native.Mathlib.Nat.{zero-lt-suc, le-of-suc-le-suc, not-suc-le-zero}
 use mathlib.Core.Bool.{Bool, true}
 use mathlib.Core.List.{List, [], _∷_, _++_, map}
 use mathlib.Core.Path.{_≡_, refl, ap₂}
@@ -62,3 +62,9 @@ module _ {A B : Type 0} (f : A → B) (P : B → Type 0) where
 pub map-back : {A B : Type 0} (f : A → B) (g : B → A) (xs : List A) → All (λ x. g (f x) ≡ x) xs → map g (map f xs) ≡ xs
 map-back f g [] h = refl
 map-back {A} f g (x ∷ xs) h = ap₂ (λ (y : A) (ys : List A). y ∷ ys) (h .0) (map-back f g xs (h .1))
+
+-- what holds of every element holds at each index
+pub all-at : {A : Type 0} (P : A → Type 0) (d : A) (xs : List A) → All P xs → (i : ℕ) → i < length xs → P (getD xs i d)
+all-at P d [] p i h = absurd (not-suc-le-zero h)
+all-at P d (x ∷ xs) p zero h = p .0
+all-at P d (x ∷ xs) p (suc i) h = all-at P d xs (p .1) i (le-of-suc-le-suc h)

@@ -6,3 +6,4 @@ pub mod Joined
 pub mod Padded
 pub mod Members
 pub mod Latest
+pub mod Removed

@@ -7,8 +7,8 @@ use mathlib.Core.List.{List, [], _∷_, map}
 use mathlib.Core.Path.{_≡_, refl, sym, ap, _∙_}
 use borrow.Author.Tests.{leb-true, leb-false}
 use lib.Dec.{leb}
-use lib.ListN.{length, getD, take, drop, length-map}
-use lib.Seq.{slice, slice-cons, slice-empty, drop-cons, take-all}
+use lib.ListN.{length, getD, set, take, drop, length-map, length-set}
+use lib.Seq.{slice, slice-cons, slice-empty, drop-cons, take-all, getD-set-same, take-set-lt, drop-set-lt}
 
 module _ {A : Type 0} where
   -- a turn takes the element at the index
@@ -43,3 +43,18 @@ take-held xs n m e = go (leb n (length xs)) refl
         let q : length xs ≤ m = omega arith in
         let r : length xs ≤ n = omega arith in
         take-all m xs q ∙ sym (take-all n xs r)
+
+-- a store, where f gives a list of each element's part
+pub map-set : {A B : Type 0} (f : A → B) (xs : List A) (i : ℕ) (x : A) → map f (set xs i x) ≡ set (map f xs) i (f x)
+map-set f [] i x = refl
+map-set f (y ∷ ys) zero x = refl
+map-set f (y ∷ ys) (suc i) x = ap (λ l. f y ∷ l) (map-set f ys i x)
+
+-- a turn of a loop that goes down stores the element before the part
+pub slice-set : {A : Type 0} (xs : List A) (i n : ℕ) (x : A) → i < n → n ≤ length xs → slice i n (set xs i x) ≡ x ∷ slice (i + 1) n xs
+slice-set xs i n x h k =
+    let held : n ≤ length (set xs i x) = rw length-set k in
+    let here : i < length xs = omega arith in
+    let past : i < i + 1 = omega arith in
+    let kept : slice (i + 1) n (set xs i x) ≡ slice (i + 1) n xs = rw (take-set-lt n xs i x h) (drop-set-lt (i + 1) (take n xs) i x past) in
+    slice-next (set xs i x) i n x h held ∙ rw (getD-set-same xs i x x here, kept)

@@ -1,17 +1,20 @@
+use mathlib.Core.Path.{ap}
 use borrow.Author.Needs.{needs}
+use lib.IntN.{pos}
+use lib.ListN.{replicate}
+use Rattle.award.specs.declared.Row.{Row}
+use Rattle.award.specs.declared.Award.{Award}
 use Rattle.award.proofs.no_award.Statement.{statement}
 use Rattle.award.proofs.no_award.Tie as tie
-use Rattle.award.proofs.no_award.Reads as reads
-use Rattle.award.proofs.no_award.Lts as lts
-use Rattle.award.proofs.no_row.Reads as no-row-reads
 
--- src/lib.rt:58:9
 no-row-requires : tie.Need-no-row-requires
 no-row-requires c κs = search needs
 
--- src/lib.rt:55:1
+abbrev blank : Row → Award
+blank row = record { demand = record { 0 = 0 }; total = record { 0 = pos 0 }; count = 0; rows = replicate 8 row }
+
 returns : tie.Need-returns
-returns c = ?
+returns c = ap blank (c .no-row .ensures)
 
 pub no-award-spec : {M : Type 1} → statement M
 no-award-spec = tie.close (tie.spec no-row-requires returns)

@@ -1,49 +1,70 @@
+use Prim.Native.Nat.{_-_}
+use mathlib.Core.Logic.{⊎-elim}
+use mathlib.Core.Path.{refl}
+use native.Mathlib.Omega.{arith}
+use borrow.Author.Needs.{needs}
+use lib.ListN.{getD}
+use Rattle.book.specs.declared.Segment.{Segment}
+use Rattle.book.proofs.Records.{noSegment}
+use Rattle.choices.proofs.Choice.{cheaper, widthAt}
+use Rattle.choices.proofs.Sound.{SoundSegment}
+use Rattle.filling.proofs.Sums.{Summed, summed-none, summed-next, summed-all, sound-at, width-counts, dearer}
 use Rattle.filling.proofs.cheaper.Statement.{statement}
 use Rattle.filling.proofs.cheaper.Tie as tie
-use Rattle.filling.proofs.cheaper.Reads as reads
-use Rattle.filling.proofs.cheaper.Lts as lts
 
 abbrev Inv-loop : tie.InvT-loop
-Inv-loop n unit c sum₀ i₀ sum i = ?
+Inv-loop n unit c sum₀ i₀ sum i = Summed (cheaper unit) (c .segments) n i sum
 
 abbrev μ-loop : tie.MeasureT-loop
-μ-loop n unit c sum₀ i₀ sum i = ?
+μ-loop n unit c sum₀ i₀ sum i = n - i
 
--- src/lib.rt:77:5
+-- the bidder's segment
+abbrev this : tie.In-loop Inv-loop μ-loop → Segment
+this c = getD (c .before .before .args .t1 .segments) (c .before .loop .i) noSegment
+
+here : (c : tie.In-loop Inv-loop μ-loop) → SoundSegment (this c)
+here c =
+    let s = c .before .before in
+    sound-at (s .args .t1 .segments) (s .args .t1 .count) (c .before .loop .i) (s .pre .0 .each) (omega arith)
+
 loop-holds : tie.Need-loop-holds Inv-loop μ-loop
-loop-holds c = ?
+loop-holds c = summed-none (cheaper (c .args .unit)) _ _ refl
 
--- src/lib.rt:78:17
 mul-s : tie.Need-mul-s Inv-loop μ-loop
-mul-s c = ?
+mul-s c = search needs
 
--- src/lib.rt:78:17
 element-copy-out-s : tie.Need-element-copy-out-s Inv-loop μ-loop
-element-copy-out-s c = ?
+element-copy-out-s c = search needs
 
--- src/lib.rt:80:20
 sub-sum : tie.Need-sub-sum Inv-loop μ-loop
-sub-sum c = ?
+sub-sum c = here (c .before .before .before .before) .order
 
--- src/lib.rt:80:13
 add-sum : tie.Need-add-sum Inv-loop μ-loop
-add-sum c = ?
+add-sum c = let high = here (c .before .before .before .before) in omega arith
 
--- src/lib.rt:82:9
 add-i : tie.Need-add-i Inv-loop μ-loop
-add-i c = ?
+add-i c = search needs
 
--- src/lib.rt:77:5
 loop-less : tie.Need-loop-less Inv-loop μ-loop
-loop-less c = ?
+loop-less c = search needs
 
--- src/lib.rt:77:5
 loop-again : tie.Need-loop-again Inv-loop μ-loop
-loop-again c = ?
+loop-again c =
+    let l = c .before .before .before in
+    let high = here l in
+    let a = l .before .before .args in
+    let at = l .before .loop in
+    let next = summed-next (cheaper (a .unit)) (a .t1 .segments) (a .n) (at .i) (at .sum) (at .inv) (c .if1 .sum) (widthAt (a .unit) (this l)) refl (l .loop-test .taken) in
+    ⊎-elim
+    (λ w. let e = width-counts (a .unit) (this l) (w .0 .taken) in next (omega arith) (omega arith))
+    (λ w. let e = dearer (a .unit) (this l) (w .0 .left) in next (omega arith) (omega arith))
+    (c .if1 .came)
 
--- src/lib.rt:70:1
 returns : tie.Need-returns Inv-loop μ-loop
-returns c = ?
+returns c =
+    let a = c .before .before .args in
+    let at = c .before .loop in
+    summed-all (cheaper (a .unit)) (a .t1 .segments) (a .n) (at .i) (at .sum) (at .inv) (c .loop-test .left)
 
 pub cheaper-spec : {M : Type 1} → statement M
 cheaper-spec =

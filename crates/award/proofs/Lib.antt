@@ -1,0 +1,2 @@
+pub mod Prices
+pub mod Rows

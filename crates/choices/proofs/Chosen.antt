@@ -1,0 +1,109 @@
+-- A segment chosen from each supply function, in book order, and a share of its width: these are the allocations. Assumes nothing.
+use Prim.Native.Nat.{ℕ, _+_, _-_, _≤_}
+use native.Mathlib.Omega.{arith}
+use mathlib.Core.Bool.{Bool, true, false, cond, or-true, false≢true}
+use mathlib.Core.List.{List, [], _∷_, List·Memᴰ as In, List·Memᴰ·head as here, List·Memᴰ·tail as there, List·Memᴰ·not-nil}
+use mathlib.Core.Path.{_≡_, refl, ap, ap₂, _∙_}
+use borrow.Author.Tests.{le-leb}
+use lib.IntN.{pos, _+ℤ_}
+use Rattle.lists.specs.All.{All}
+use Rattle.lists.proofs.Members.{all-in}
+use Rattle.book.specs.declared.Segment.{Segment}
+use Rattle.book.proofs.InRange.{within-low, within-high}
+use Rattle.supply.specs.Supply.{on, offers}
+use Rattle.supply.specs.Allocation.{costOf}
+use Rattle.divisions.specs.Division.{Allocation}
+use Rattle.divisions.specs.Best.{insideCount}
+use Rattle.choices.proofs.Choice.{width, placed}
+use Rattle.choices.proofs.Sound.{SoundSegment, SoundSupply}
+use Rattle.choices.proofs.Fill.{cost}
+use Rattle.choices.proofs.Certificate.{insides}
+use Rattle.choices.proofs.Placed.{price-on}
+
+abbrev pub Chosen : List (List Segment) → List Segment → List ℕ → Type 0
+Chosen [] [] [] = Unit {0}
+Chosen (ss ∷ supplies) (s ∷ c) (x ∷ xs) = In s ss × (x ≤ width s) × Chosen supplies c xs
+Chosen [] [] (x ∷ xs) = ⊥
+Chosen [] (s ∷ c) xs = ⊥
+Chosen (ss ∷ supplies) [] xs = ⊥
+Chosen (ss ∷ supplies) (s ∷ c) [] = ⊥
+
+-- One segment.
+
+on-when : (s : Segment) (x : ℕ) → SoundSegment s → x ≤ width s → on s (s .start .0 + x) ≡ true
+unfolding on width
+on-when s x sound h =
+    let r = s .start .0 + x in
+    rw (le-leb (s .start .0) r (omega arith), le-leb r (s .end .0) (omega (arith, sound .order)))
+
+offers-when : (ss : List Segment) (s : Segment) (r : ℕ) → In s ss → on s r ≡ true → offers ss r ≡ true
+unfolding offers
+offers-when [] s r m o = absurd (List·Memᴰ·not-nil m)
+offers-when (t ∷ ts) s r (here e) o = let o′ : on t r ≡ true = rw e at o in rw o′
+offers-when (t ∷ ts) s r (there m) o = rw (offers-when ts s r m o) (or-true (on t r))
+
+-- a quantity that is offered is on a segment, with a share of its width
+record OnSegment (ss : List Segment) (r : ℕ) : Type 0 where
+  segment : Segment
+  share : ℕ
+  chosen : In segment ss
+  within : share ≤ width segment
+  quantity : r ≡ segment .start .0 + share
+
+offered-here : (s : Segment) (ss : List Segment) (r : ℕ) → on s r ≡ true → OnSegment (s ∷ ss) r
+unfolding on width
+offered-here s ss r e =
+    let low = within-low (s .start .0) (s .end .0) r e in
+    let high = within-high (s .start .0) (s .end .0) r e in
+    record { segment = s; share = r - s .start .0; chosen = here refl; within = omega arith; quantity = omega arith }
+
+offered : (ss : List Segment) (r : ℕ) → offers ss r ≡ true → OnSegment ss r
+unfolding offers
+offered [] r e = absurd (false≢true e)
+offered (s ∷ ss) r e = go (on s r) refl (λ f. offered ss r (rw f at e))
+  where
+    go : (t : Bool) → on s r ≡ t → (on s r ≡ false → OnSegment ss r) → OnSegment (s ∷ ss) r
+    go true f later = offered-here s ss r f
+    go false f later =
+        let o = later f in
+        record { segment = o .segment; share = o .share; chosen = there (o .chosen); within = o .within; quantity = o .quantity }
+
+-- All of them.
+
+module _ (ss : List Segment) (s : Segment) (x : ℕ) (sound : SoundSupply ss) (m : In s ss) (h : x ≤ width s) where
+  chosen-sound : SoundSegment s
+  chosen-sound = all-in SoundSegment ss s (sound .each) m
+
+  chosen-on : on s (s .start .0 + x) ≡ true
+  chosen-on = on-when s x chosen-sound h
+
+pub chosen-allocation : (supplies : List (List Segment)) (c : List Segment) (xs : List ℕ) → All SoundSupply supplies → Chosen supplies c xs
+    → Allocation supplies (placed c xs)
+chosen-allocation [] [] [] sound a = tt
+chosen-allocation (ss ∷ supplies) (s ∷ c) (x ∷ xs) sound (m, h, a) =
+    (offers-when ss s (s .start .0 + x) m (chosen-on ss s x (sound .0) m h), chosen-allocation supplies c xs (sound .1) a)
+
+pub chosen-cost : (supplies : List (List Segment)) (c : List Segment) (xs : List ℕ) → All SoundSupply supplies → Chosen supplies c xs
+    → costOf supplies (placed c xs) ≡ pos (cost c xs)
+unfolding costOf
+chosen-cost [] [] [] sound a = refl
+chosen-cost (ss ∷ supplies) (s ∷ c) (x ∷ xs) sound (m, h, a) =
+    let price = sound .0 .one-price s (s .start .0 + x) m (chosen-on ss s x (sound .0) m h) in
+    ap₂ _+ℤ_ (price ∙ price-on s x (chosen-sound ss s x (sound .0) m h)) (chosen-cost supplies c xs (sound .1) a)
+
+pub chosen-inside : (supplies : List (List Segment)) (c : List Segment) (xs : List ℕ) → All SoundSupply supplies → Chosen supplies c xs
+    → insideCount supplies (placed c xs) ≡ insides c xs
+unfolding insideCount
+chosen-inside [] [] [] sound a = refl
+chosen-inside (ss ∷ supplies) (s ∷ c) (x ∷ xs) sound (m, h, a) =
+    let same = sound .0 .one-inside s (s .start .0 + x) m (chosen-on ss s x (sound .0) m h) in
+    ap₂ _+_ (ap (λ (t : Bool). cond t 1 0) same) (chosen-inside supplies c xs (sound .1) a)
+
+-- and every allocation is of such quantities
+pub allocation-chosen : (supplies : List (List Segment)) (rs : List ℕ) → Allocation supplies rs
+    → (c : List Segment) × (xs : List ℕ) × Chosen supplies c xs × (rs ≡ placed c xs)
+allocation-chosen [] [] a = ([], [], tt, refl)
+allocation-chosen (ss ∷ supplies) (r ∷ rs) a =
+    let o = offered ss r (a .0) in
+    let (c, xs, l, e) = allocation-chosen supplies rs (a .1) in
+    (o .segment ∷ c, o .share ∷ xs, (o .chosen, o .within, l), ap₂ _∷_ (o .quantity) e)

@@ -1,0 +1,146 @@
+-- Complete choices that fit and divisions: each such choice gives a division, and for each division one gives one at least as good. Assumes nothing.
+use Prim.Native.Nat.{ℕ, _+_, _-_, _≤_}
+use native.Mathlib.Omega.{arith}
+use mathlib.Core.Bool.{true}
+use mathlib.Core.List.{List, [], _∷_, reverseAux, reverse, List·Memᴰ as In}
+use mathlib.Core.Logic.{inl, inr}
+use mathlib.Core.Path.{_≡_, refl, ap, _∙_, subst}
+use borrow.Author.Tests.{lt-ltb}
+use lib.IntN.{pos}
+use Rattle.lists.specs.All.{All}
+use Rattle.lists.proofs.Members.{all-in}
+use Rattle.book.specs.declared.Segment.{Segment}
+use Rattle.supply.specs.Allocation.{total}
+use Rattle.divisions.specs.Award.{Priced}
+use Rattle.divisions.proofs.Order.{better-cost, better-tie}
+use Rattle.divisions.proofs.Best.{NotBetter}
+use Rattle.choices.proofs.Choice.{starts, fits, placed, sharesOf, filled}
+use Rattle.choices.proofs.Sound.{SoundSegment, SoundSupply}
+use Rattle.choices.proofs.Fill.{cost, Box, Wins, shares-total, shares-box, box-room}
+use Rattle.choices.proofs.Certificate.{shares-cert, insides, one-inside}
+use Rattle.choices.proofs.Optimal.{cert-wins}
+use Rattle.choices.proofs.Placed.{cost-with, placed-total, ends-room, fits-low, fits-high, fits-when, placed-less, less-more}
+use Rattle.choices.proofs.Leaves.{Leaf}
+use Rattle.choices.proofs.Chosen.{Chosen}
+
+-- the shares xs of the choice so far, and the shares ys of the segments e chosen for the bidders left
+abbrev pub together : List Segment → List ℕ → List Segment → List ℕ → Priced
+together c xs e ys = record { cost = pos (cost c xs + cost e ys); quantities = reverseAux (placed c xs) (placed e ys) }
+
+-- d is these quantities, which meet the demand with at most one bidder strictly inside
+pub record Divides (demand : ℕ) (supplies : List (List Segment)) (c : List Segment) (d : Priced) : Type 0 where
+  pub shares : List ℕ
+  pub later : List Segment
+  pub laterShares : List ℕ
+  pub box : Box c shares
+  pub chosen : Chosen supplies later laterShares
+  pub meets : total (placed c shares) + total (placed later laterShares) ≡ demand
+  pub is : d ≡ together c shares later laterShares
+  pub few : insides c shares + insides later laterShares ≤ 1
+
+-- the latest bidder so far, taken as the first of those left
+shift : (s : Segment) (x : ℕ) (c : List Segment) (xs : List ℕ) (e : List Segment) (ys : List ℕ)
+    → together (s ∷ c) (x ∷ xs) e ys ≡ together c xs (s ∷ e) (x ∷ ys)
+shift s x c xs e ys =
+    let sum : cost (s ∷ c) (x ∷ xs) + cost e ys ≡ cost c xs + cost (s ∷ e) (x ∷ ys) = omega arith in
+    λ i. record { cost = pos (sum i); quantities = reverseAux (placed c xs) (placed (s ∷ e) (x ∷ ys)) }
+
+-- A complete choice.
+
+wins-better : (c : List Segment) (xs ys : List ℕ) → Box c xs → Box c ys → Wins c xs ys → NotBetter (together c ys [] []) (together c xs [] [])
+wins-better c xs ys b d (inl h) = inr (better-cost (together c xs [] []) (together c ys [] []) (lt-ltb (cost c xs + 0) (cost c ys + 0) (omega arith)))
+wins-better c xs ys b d (inr (h, inl k)) = inl (ap (λ (l : List ℕ). together c l [] []) k)
+wins-better c xs ys b d (inr (h, inr k)) =
+    let same : cost c xs + 0 ≡ cost c ys + 0 = omega arith in
+    let more = less-more (placed c ys) (placed c xs) [] [] (placed-less c ys xs d b k) in
+    inr (better-tie (together c xs [] []) (together c ys [] []) (ap pos same) more)
+
+module _ (demand : ℕ) (c : List Segment) (sound : All SoundSegment c) where
+  abbrev left : ℕ
+  left = demand - starts c
+
+  abbrev given : List ℕ
+  given = sharesOf demand c
+
+  filled-is : filled demand c ≡ together c given [] []
+  unfolding filled
+  filled-is =
+      let sum : cost c given ≡ cost c given + 0 = omega arith in
+      λ i. record { cost = (cost-with c given sound ∙ ap pos sum) i; quantities = reverse (placed c given) }
+
+  leaf-divides : fits demand c ≡ true → Divides demand [] c (filled demand c)
+  unfolding total
+  leaf-divides f =
+      let low = fits-low demand c f in
+      let high = fits-high demand c f in
+      let box = shares-box left c in
+      record {
+        shares = given;
+        later = [];
+        laterShares = [];
+        box = box;
+        chosen = tt;
+        meets = omega (arith, placed-total c given box, shares-total left c (omega (arith, ends-room c sound)));
+        is = filled-is;
+        few = omega (arith, one-inside c given (shares-cert left c));
+      }
+
+  -- where shares meet the demand, the choice fits, and what it is given is at least as good
+  leaf-fits : (xs : List ℕ) → Box c xs → total (placed c xs) ≡ demand → fits demand c ≡ true
+  leaf-fits xs b e =
+      let sum = placed-total c xs b in
+      fits-when demand c (omega arith) (omega (arith, box-room c xs b, ends-room c sound))
+
+  leaf-better : (xs : List ℕ) → Box c xs → total (placed c xs) ≡ demand → NotBetter (together c xs [] []) (filled demand c)
+  leaf-better xs b e =
+      let sum = placed-total c xs b in
+      let all : total given ≡ left = shares-total left c (omega (arith, box-room c xs b)) in
+      let box = shares-box left c in
+      rw filled-is (wins-better c given xs box b (cert-wins c given xs (shares-cert left c) box b (omega arith)))
+
+-- Any choice so far.
+
+divides-next : (demand : ℕ) (supplies : List (List Segment)) (ss : List Segment) (s : Segment) (c : List Segment) (d : Priced) → In s ss
+    → Divides demand supplies (s ∷ c) d → Divides demand (ss ∷ supplies) c d
+unfolding total
+divides-next demand supplies ss s c d m p = go (p .shares) (p .box) (p .meets) (p .is) (p .few)
+  where
+    e : List Segment
+    e = p .later
+
+    ys : List ℕ
+    ys = p .laterShares
+
+    go : (xs : List ℕ) → Box (s ∷ c) xs → total (placed (s ∷ c) xs) + total (placed e ys) ≡ demand → d ≡ together (s ∷ c) xs e ys
+        → insides (s ∷ c) xs + insides e ys ≤ 1 → Divides demand (ss ∷ supplies) c d
+    go [] b t i f = absurd b
+    go (x ∷ xs) b t i f = record {
+      shares = xs;
+      later = s ∷ e;
+      laterShares = x ∷ ys;
+      box = b .1;
+      chosen = (m, b .0, p .chosen);
+      meets = omega arith;
+      is = i ∙ shift s x c xs e ys;
+      few = omega arith;
+    }
+
+pub divides : (demand : ℕ) (supplies : List (List Segment)) (c : List Segment) (d : Priced) → All SoundSupply supplies → All SoundSegment c
+    → Leaf demand supplies c d → Divides demand supplies c d
+divides demand [] c d sound before (f, e) = rw e (leaf-divides demand c before f)
+divides demand (ss ∷ supplies) c d sound before (s, m, l) =
+    let one = all-in SoundSegment ss s (sound .0 .each) m in
+    divides-next demand supplies ss s c d m (divides demand supplies (s ∷ c) d (sound .1) (one, before) l)
+
+-- and some complete choice gives quantities at least as good as these
+pub as-good : (demand : ℕ) (supplies : List (List Segment)) (c : List Segment) (xs : List ℕ) (e : List Segment) (ys : List ℕ)
+    → All SoundSupply supplies → All SoundSegment c → Box c xs → Chosen supplies e ys → total (placed c xs) + total (placed e ys) ≡ demand
+    → (t : Priced) × Leaf demand supplies c t × NotBetter (together c xs e ys) t
+unfolding total
+as-good demand [] c xs [] [] sound before b a t =
+    let all : total (placed c xs) ≡ demand = omega arith in
+    (filled demand c, (leaf-fits demand c before xs b all, refl), leaf-better demand c before xs b all)
+as-good demand (ss ∷ supplies) c xs (s ∷ e) (x ∷ ys) sound before b (m, w, a) t =
+    let one = all-in SoundSegment ss s (sound .0 .each) m in
+    let (d, l, n) = as-good demand supplies (s ∷ c) (x ∷ xs) e ys (sound .1) (one, before) (w, b) a (omega arith) in
+    (d, (s, m, l), subst (λ (p : Priced). NotBetter p d) (shift s x c xs e ys) n)

@@ -1,0 +1,92 @@
+-- The shares of a choice are a point of its box, and add up to what there is to give. Assumes nothing.
+use Prim.Native.Nat.{ℕ, _+_, _*_, _-_, _≤_, _<_}
+use native.Mathlib.Omega.{arith}
+use mathlib.Core.Bool.{Bool, true, false, cond}
+use mathlib.Core.List.{List, [], _∷_}
+use mathlib.Core.Logic.{_⊎_, inl, inr}
+use mathlib.Core.Path.{_≡_, refl}
+use borrow.Author.Tests.{leb-true, leb-false}
+use lib.Dec.{leb}
+use lib.IntN.{natAbs}
+use Rattle.book.specs.declared.Segment.{Segment}
+use Rattle.book.specs.Rules.{priceOn}
+use Rattle.supply.specs.Allocation.{total}
+use Rattle.choices.proofs.Choice.{width, widthAt, cheaper, share, shares}
+
+-- the price at a segment's start, which is not negative
+unfoldable pub base : Segment → ℕ
+base s = natAbs (priceOn s (s .start .0))
+
+-- what a choice can take over its starts
+abbrev pub room : List Segment → ℕ
+room [] = 0
+room (s ∷ c) = width s + room c
+
+-- what the quantities with these shares cost
+abbrev pub cost : List Segment → List ℕ → ℕ
+cost [] xs = 0
+cost (s ∷ c) [] = 0
+cost (s ∷ c) (x ∷ xs) = base s + s .unit .0 * x + cost c xs
+
+-- the box of a choice: a share for each bidder, at most its width
+abbrev pub Box : List Segment → List ℕ → Type 0
+Box [] [] = Unit {0}
+Box [] (x ∷ xs) = ⊥
+Box (s ∷ c) [] = ⊥
+Box (s ∷ c) (x ∷ xs) = (x ≤ width s) × Box c xs
+
+-- ys gives less than xs to the first bidder, the last of the list, at whom the two differ
+abbrev pub Less : List ℕ → List ℕ → Type 0
+Less [] xs = ⊥
+Less (y ∷ ys) [] = ⊥
+Less (y ∷ ys) (x ∷ xs) = Less ys xs ⊎ ((ys ≡ xs) × (y < x))
+
+-- xs costs less than ys; or it costs the same, and is ys or gives more to the first bidder at whom the two differ
+abbrev pub Wins : List Segment → List ℕ → List ℕ → Type 0
+Wins c xs ys = (cost c xs < cost c ys) ⊎ ((cost c xs ≡ cost c ys) × ((ys ≡ xs) ⊎ Less ys xs))
+
+-- how much of a segment counts at a unit price: all of it, or nothing
+abbrev pub Counts : ℕ → Segment → Type 0
+Counts u s = ((s .unit .0 ≤ u) × (widthAt u s ≡ width s)) ⊎ ((u < s .unit .0) × (widthAt u s ≡ 0))
+
+pub counts : (u : ℕ) (s : Segment) → Counts u s
+counts u s = go (leb (s .unit .0) u) refl
+  where
+    go : (t : Bool) → leb (s .unit .0) u ≡ t → ((s .unit .0 ≤ u) × (cond t (width s) 0 ≡ width s)) ⊎ ((u < s .unit .0) × (cond t (width s) 0 ≡ 0))
+    go true e = inl (leb-true (s .unit .0) u e, refl)
+    go false e = inr (leb-false (s .unit .0) u e, refl)
+
+cheaper-room : (u : ℕ) (c : List Segment) → cheaper u c ≤ room c
+cheaper-room u [] = omega arith
+cheaper-room u (s ∷ c) = go (counts u s) (cheaper-room u c)
+  where
+    go : Counts u s → cheaper u c ≤ room c → cheaper u (s ∷ c) ≤ room (s ∷ c)
+    go (inl h) l = omega arith
+    go (inr h) l = omega arith
+
+-- more counts at a higher unit price
+pub cheaper-mono : (u v : ℕ) (c : List Segment) → u ≤ v → cheaper u c ≤ cheaper v c
+cheaper-mono u v [] h = omega arith
+cheaper-mono u v (s ∷ c) h = go (counts u s) (counts v s) (cheaper-mono u v c h)
+  where
+    go : Counts u s → Counts v s → cheaper u c ≤ cheaper v c → cheaper u (s ∷ c) ≤ cheaper v (s ∷ c)
+    go (inl k) (inl m) l = omega arith
+    go (inl k) (inr m) l = omega arith
+    go (inr k) m l = omega arith
+
+-- where there is no more to give than the choice can take, all of it is given
+pub shares-total : (left : ℕ) (c : List Segment) → left ≤ room c → total (shares left c) ≡ left
+unfolding total
+shares-total left [] h = omega arith
+shares-total left (s ∷ c) h =
+    let l : cheaper (s .unit .0) c ≤ room c = cheaper-room (s .unit .0) c in
+    omega (arith, shares-total (left - share left s c) c (omega arith))
+
+pub shares-box : (left : ℕ) (c : List Segment) → Box c (shares left c)
+shares-box left [] = tt
+shares-box left (s ∷ c) = (omega arith, shares-box (left - share left s c) c)
+
+pub box-room : (c : List Segment) (ys : List ℕ) → Box c ys → total ys ≤ room c
+unfolding total
+box-room [] [] b = omega arith
+box-room (s ∷ c) (y ∷ ys) b = omega (arith, box-room c ys (b .1))

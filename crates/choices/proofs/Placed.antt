@@ -1,0 +1,95 @@
+-- The quantities of a choice with shares of its box: what they add up to, what they cost, and which give more. Assumes nothing.
+use Prim.Native.Nat.{ℕ, _+_, _*_, _≤_, _<_}
+use native.Mathlib.Nat.{le-refl}
+use native.Mathlib.Omega.{arith}
+use mathlib.Core.Bool.{true, false≢true}
+use mathlib.Core.List.{List, [], _∷_, reverseAux}
+use mathlib.Core.Logic.{inl, inr}
+use mathlib.Core.Path.{_≡_, refl, ap, ap₂, _∙_}
+use borrow.Author.Tests.{leb-true, le-leb, lt-ltb, le-ltb, eq-eqb}
+use lib.Dec.{leb}
+use lib.IntN.{ℤ, pos, negsuc, natAbs, _+ℤ_, +ℤ-assoc}
+use lib.Signed.{leZ}
+use Rattle.lists.specs.All.{All}
+use Rattle.lists.proofs.Tests.{both-left, both-right}
+use Rattle.money.specs.Price.{priceOf}
+use Rattle.book.specs.declared.Segment.{Segment}
+use Rattle.book.specs.Rules.{priceOn}
+use Rattle.supply.specs.Allocation.{total}
+use Rattle.divisions.specs.Award.{givesMore}
+use Rattle.choices.proofs.Choice.{starts, ends, fits, width, placed, costWith}
+use Rattle.choices.proofs.Sound.{SoundSegment}
+use Rattle.choices.proofs.Fill.{base, room, cost, Box, Less}
+
+-- Prices, which are not negative.
+
+not-below : (z : ℤ) → leZ (pos 0) z ≡ true → z ≡ pos (natAbs z)
+not-below (pos n) e = refl
+not-below (negsuc n) e = absurd (false≢true e)
+
+pub price-on : (s : Segment) (x : ℕ) → SoundSegment s → priceOn s (s .start .0 + x) ≡ pos (base s + s .unit .0 * x)
+unfolding priceOf base
+price-on s x sound =
+    let u : ℕ = s .unit .0 in
+    let a : ℕ = s .start .0 in
+    let f : ℤ = s .fixed .0 in
+    let at : u * (a + x) ≡ u * x + u * a = omega arith in
+    let sum : u * x + base s ≡ base s + u * x = omega arith in
+    ap (λ (n : ℕ). pos n +ℤ f) at
+    ∙ +ℤ-assoc (pos (u * x)) (pos (u * a)) f
+    ∙ ap (λ (z : ℤ). pos (u * x) +ℤ z) (not-below (priceOn s a) (sound .not-negative))
+    ∙ ap pos sum
+
+pub cost-with : (c : List Segment) (xs : List ℕ) → All SoundSegment c → costWith c xs ≡ pos (cost c xs)
+cost-with [] xs sound = refl
+cost-with (s ∷ c) [] sound = refl
+cost-with (s ∷ c) (x ∷ xs) sound = ap₂ _+ℤ_ (price-on s x (sound .0)) (cost-with c xs (sound .1))
+
+-- What they add up to, and which choices fit.
+
+pub placed-total : (c : List Segment) (xs : List ℕ) → Box c xs → total (placed c xs) ≡ starts c + total xs
+unfolding total
+placed-total [] [] b = omega arith
+placed-total (s ∷ c) (x ∷ xs) b = omega (arith, placed-total c xs (b .1))
+
+pub ends-room : (c : List Segment) → All SoundSegment c → ends c ≡ starts c + room c
+unfolding width
+ends-room [] sound = refl
+ends-room (s ∷ c) sound = omega (arith, sound .0 .order, ends-room c (sound .1))
+
+module _ (demand : ℕ) (c : List Segment) where
+  pub fits-low : fits demand c ≡ true → starts c ≤ demand
+  unfolding fits
+  fits-low e = leb-true (starts c) demand (both-left (leb (starts c) demand) (leb demand (ends c)) e)
+
+  pub fits-high : fits demand c ≡ true → demand ≤ ends c
+  unfolding fits
+  fits-high e = leb-true demand (ends c) (both-right (leb (starts c) demand) (leb demand (ends c)) e)
+
+  pub fits-when : starts c ≤ demand → demand ≤ ends c → fits demand c ≡ true
+  unfolding fits
+  fits-when h k = rw (le-leb (starts c) demand h, le-leb demand (ends c) k)
+
+-- Where they differ first, in book order.
+
+pub placed-less : (c : List Segment) (ys xs : List ℕ) → Box c ys → Box c xs → Less ys xs → Less (placed c ys) (placed c xs)
+placed-less [] [] [] b d h = h
+placed-less (s ∷ c) (y ∷ ys) (x ∷ xs) b d (inl h) = inl (placed-less c ys xs (b .1) (d .1) h)
+placed-less (s ∷ c) (y ∷ ys) (x ∷ xs) b d (inr h) = inr (ap (λ (l : List ℕ). placed c l) (h .0), omega arith)
+
+more-here : (x y : ℕ) (xs ys : List ℕ) → y < x → givesMore (x ∷ xs) (y ∷ ys) ≡ true
+unfolding givesMore
+more-here x y xs ys h = rw (lt-ltb y x h)
+
+more-later : (z : ℕ) (xs ys : List ℕ) → givesMore xs ys ≡ true → givesMore (z ∷ xs) (z ∷ ys) ≡ true
+unfolding givesMore
+more-later z xs ys h = rw (le-ltb z z (le-refl z), eq-eqb z z refl, h)
+
+-- after the same quantities
+more-after : (zs xs ys : List ℕ) → givesMore xs ys ≡ true → givesMore (reverseAux zs xs) (reverseAux zs ys) ≡ true
+more-after [] xs ys h = h
+more-after (z ∷ zs) xs ys h = more-after zs (z ∷ xs) (z ∷ ys) (more-later z xs ys h)
+
+pub less-more : (ys xs v w : List ℕ) → Less ys xs → givesMore (reverseAux xs w) (reverseAux ys v) ≡ true
+less-more (y ∷ ys) (x ∷ xs) v w (inl h) = less-more ys xs (y ∷ v) (x ∷ w) h
+less-more (y ∷ ys) (x ∷ xs) v w (inr h) = rw (h .0) (more-after xs (x ∷ w) (y ∷ v) (more-here x y w v (h .1)))

@@ -1,0 +1,74 @@
+-- The total without a bidder, and the answer of clearing, from what the search found. Assumes nothing.
+use Prim.Native.Nat.{ℕ}
+use mathlib.Core.Bool.{true, false}
+use mathlib.Core.List.{List}
+use mathlib.Core.Option.{Option, some, none}
+use mathlib.Core.Path.{_≡_, sym, ap, _∙_}
+use lib.ListN.{take}
+use Rattle.lists.specs.Padded.{padded}
+use Rattle.refusal.specs.declared.Rule.{Rule}
+use Rattle.refusal.specs.declared.Rule.the-variants.{NotCovered}
+use Rattle.refusal.specs.declared.Verdict.the-variants.{Accepted, Refused}
+use Rattle.book.specs.declared.Book.{Book}
+use Rattle.book.specs.Entries.{BookEntries, bookEntries}
+use Rattle.book.specs.Rules.{bookVerdict}
+use Rattle.supply.specs.Supply.{suppliesOf}
+use Rattle.divisions.specs.Award.{Priced, awardOf}
+use Rattle.filling.specs.declared.Best.{Best}
+use Rattle.filling.specs.Records.{blanksIn, divisionIn, found}
+use Rattle.award.specs.declared.Total.the-variants.{Amount, Nothing}
+use Rattle.award.specs.declared.Row.{Row}
+use Rattle.award.specs.Award.{noRow}
+use Rattle.clearing.specs.declared.Clearing.{Clearing}
+use Rattle.clearing.specs.Clearing.{awardOfBook, bookWithout, totalOf, totalWithout, rowsFrom, awardRecord, refusedClearing, clearedBook, clearOf}
+
+-- what clearing gives with these rows, where a division was found
+abbrev awarded : Book → Best → List Row → Clearing
+awarded book best rows = record {
+  verdict = Accepted;
+  award = record { demand = book .demand; total = best .total; count = book .count; rows = rows };
+}
+
+-- The search's answer for a record: a division, or that there is none.
+module _ (book : Book) (best : Best) (searched : found (book .count) best ≡ awardOf (book .demand .0) (suppliesOf (bookEntries book .bids))) where
+  award-some : best .found ≡ true → awardOfBook (bookEntries book) ≡ some (divisionIn (book .count) best)
+  unfolding awardOfBook
+  award-some h = sym searched ∙ rw h
+
+  award-none : best .found ≡ false → awardOfBook (bookEntries book) ≡ none
+  unfolding awardOfBook
+  award-none h = sym searched ∙ rw h
+
+  -- where the record holds the book less the bid with index `at`
+  module _ (b : BookEntries) (at : ℕ) (less : bookEntries book ≡ bookWithout at b) where
+    total-is : (o : Option Priced) → awardOfBook (bookEntries book) ≡ o → totalOf o ≡ totalWithout b at
+    unfolding totalWithout
+    total-is o e = ap totalOf (sym e ∙ ap awardOfBook less)
+
+    pub total-amount : best .found ≡ true → Amount (best .total) ≡ totalWithout b at
+    total-amount h = total-is _ (award-some h)
+
+    pub total-nothing : best .found ≡ false → Nothing ≡ totalWithout b at
+    total-nothing h = total-is none (award-none h)
+
+  -- where it holds an accepted book
+  module _ (accepted : bookVerdict (bookEntries book) ≡ Accepted) where
+    clear-is : (o : Option Priced) → awardOfBook (bookEntries book) ≡ o → clearedBook (bookEntries book) o ≡ clearOf (bookEntries book)
+    unfolding clearOf
+    clear-is o e = rw (accepted, e)
+
+    pub clear-none : best .found ≡ false → refusedClearing (Refused NotCovered 0) ≡ clearOf (bookEntries book)
+    unfolding clearedBook
+    clear-none h = clear-is none (award-none h)
+
+    pub clear-award : best .found ≡ true → (rows : List Row)
+        → rows ≡ padded 8 noRow (rowsFrom (bookEntries book) 0 (bookEntries book .bids) (take (book .count) (blanksIn (best .quantities))))
+        → awarded book best rows ≡ clearOf (bookEntries book)
+    unfolding clearedBook awardRecord
+    clear-award h rows e = rw e (clear-is (some (divisionIn (book .count) best)) (award-some h))
+
+-- a book that rules 3 to 8 refuse
+pub clear-refused : (b : BookEntries) (rule : Rule) (place : ℕ) → bookVerdict b ≡ Refused rule place
+    → refusedClearing (Refused rule place) ≡ clearOf b
+unfolding clearOf
+clear-refused b rule place e = rw e

@@ -1,0 +1,4 @@
+pub mod Less
+pub mod Searchable
+pub mod Made
+pub mod Answers

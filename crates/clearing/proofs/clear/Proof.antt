@@ -1,0 +1,70 @@
+use mathlib.Core.Path.{_≡_, sym, ap, _∙_}
+use borrow.Author.Needs.{needs}
+use borrow.Author.Tests.{not-true, not-false}
+use Rattle.refusal.specs.declared.Verdict.the-variants.{Accepted}
+use Rattle.book.specs.Entries.{bookEntries}
+use Rattle.book.specs.Rules.{bookVerdict}
+use Rattle.clearing.specs.Clearing.{refusedClearing}
+use Rattle.clearing.proofs.Searchable.{searchable}
+use Rattle.clearing.proofs.Answers.{clear-refused, clear-none, clear-award}
+use Rattle.clearing.proofs.clear.Statement.{statement}
+use Rattle.clearing.proofs.clear.Tie as tie
+
+check-requires : tie.Need-check-requires
+check-requires c κs = search needs
+
+enum-told : tie.Need-enum-told
+enum-told c = search needs
+
+refused-requires : tie.Need-refused-requires
+refused-requires c κs = search needs
+
+returns : tie.Need-returns
+returns c =
+    let told = c .before .enum-told .given in
+    let check = c .before .before .before .check in
+    c .refused .ensures ∙ ap refusedClearing (told .1) ∙ clear-refused _ (told .0 .0) (told .0 .1 .0) (sym (check .ensures) ∙ told .1)
+
+enum-told-2 : tie.Need-enum-told-2
+enum-told-2 c = search needs
+
+accepted : (c : tie.After-enum-told2) → bookVerdict (bookEntries (c .before .before .before .args .book)) ≡ Accepted
+accepted c = sym (c .before .before .check .ensures) ∙ c .enum-told2 .given .1
+
+best-division-requires : tie.Need-best-division-requires
+best-division-requires c κs = searchable _ (accepted c)
+
+refused-requires-2 : tie.Need-refused-requires-2
+refused-requires-2 c κs = search needs
+
+returns-2 : tie.Need-returns-2
+returns-2 c =
+    let b = c .before .before .before in
+    let best = b .best-division in
+    c .refused2 .ensures
+    ∙ clear-none _ (best .result) (best .ensures) (accepted (b .before)) (not-true (best .result .found) (c .before .if1 .taken))
+
+rows-requires : tie.Need-rows-requires
+rows-requires c κs = accepted (c .before .before .before .before .before .before)
+
+returns-3 : tie.Need-returns-3
+returns-3 c =
+    let e = c .before .before .before .before in
+    let b = e .before .before in
+    let best = b .best-division in
+    clear-award _ (best .result) (best .ensures) (accepted (b .before)) (not-false (best .result .found) (e .if1 .left)) _ (c .rows .ensures)
+
+pub clear-spec : {M : Type 1} → statement M
+clear-spec =
+    tie.close
+    (tie.spec
+    check-requires
+    enum-told
+    refused-requires
+    returns
+    enum-told-2
+    best-division-requires
+    refused-requires-2
+    returns-2
+    rows-requires
+    returns-3)

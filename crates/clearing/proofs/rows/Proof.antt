@@ -1,0 +1,107 @@
+use Prim.Native.Nat.{_≤_, _-_}
+use mathlib.Core.Path.{_≡_, ap, _∙_}
+use native.Mathlib.Omega.{arith}
+use borrow.Author.Needs.{needs}
+use lib.ListN.{length, getD}
+use Rattle.lists.proofs.Slices.{length-held}
+use Rattle.book.specs.Entries.{bidEntries}
+use Rattle.book.proofs.Records.{noBid}
+use Rattle.book.proofs.Accepted.{AcceptedBid, few-bids, bid-at}
+use Rattle.award.specs.Award.{rowOf}
+use Rattle.clearing.proofs.Made.{Made, made-none, made-next, made-all}
+use Rattle.clearing.proofs.rows.Statement.{statement}
+use Rattle.clearing.proofs.rows.Tie as tie
+
+abbrev Inv-loop : tie.InvT-loop
+Inv-loop book quantities rows₀ i₀ rows i = Made book quantities rows i
+
+abbrev μ-loop : tie.MeasureT-loop
+μ-loop book quantities rows₀ i₀ rows i = book .count - i
+
+-- What is known throughout: the record holds the bids, at most eight, and as many quantities, and each bid is accepted.
+
+held : (c : tie.Start Inv-loop μ-loop) → length (c .args .t1 .bids) ≡ 8
+held c = search (length-held, c .good)
+
+quantities-held : (c : tie.Start Inv-loop μ-loop) → length (c .args .t2) ≡ 8
+quantities-held c = search (length-held, c .good)
+
+few : (c : tie.Start Inv-loop μ-loop) → c .args .t1 .count ≤ 8
+few c = few-bids (c .args .t1) (c .pre) (held c)
+
+this-accepted : (c : tie.In-loop Inv-loop μ-loop)
+    → AcceptedBid (bidEntries (getD (c .before .before .before .args .t1 .bids) (c .before .loop .i) noBid))
+this-accepted c =
+    let s = c .before .before .before in
+    bid-at (s .args .t1) (s .pre) (held s) (c .before .loop .i) (c .loop-test .taken)
+
+no-row-requires : tie.Need-no-row-requires Inv-loop μ-loop
+no-row-requires c κs = search needs
+
+loop-holds : tie.Need-loop-holds Inv-loop μ-loop
+loop-holds c = made-none (c .before .args .t1) (c .before .args .t2) (c .no-row .result) (c .no-row .ensures)
+
+mul-bid : tie.Need-mul-bid Inv-loop μ-loop
+mul-bid c = omega (arith, few (c .before .before .before))
+
+element-copy-out-bid : tie.Need-element-copy-out-bid Inv-loop μ-loop
+element-copy-out-bid c = omega (arith, few (c .before .before .before))
+
+mul-quantity : tie.Need-mul-quantity Inv-loop μ-loop
+mul-quantity c = omega (arith, few (c .before .before .before .before))
+
+array-copy-out-quantity : tie.Need-array-copy-out-quantity Inv-loop μ-loop
+array-copy-out-quantity c = omega (arith, few (c .before .before .before .before))
+
+total-without-requires : tie.Need-total-without-requires Inv-loop μ-loop
+total-without-requires c κs = (c .before .before .before .before .before .pre, omega arith)
+
+row-of-requires : tie.Need-row-of-requires Inv-loop μ-loop
+row-of-requires c κs = let kept = this-accepted (c .before .before .before) in (kept .count-high, kept .ranges)
+
+mul-rows : tie.Need-mul-rows Inv-loop μ-loop
+mul-rows c = omega (arith, few (c .before .before .before .before .before .before .before))
+
+array-set-from-rows : tie.Need-array-set-from-rows Inv-loop μ-loop
+array-set-from-rows c = omega (arith, few (c .before .before .before .before .before .before .before))
+
+add-i : tie.Need-add-i Inv-loop μ-loop
+add-i c = omega (arith, few (c .before .before .before .before .before .before .before))
+
+loop-less : tie.Need-loop-less Inv-loop μ-loop
+loop-less c = search needs
+
+loop-again : tie.Need-loop-again Inv-loop μ-loop
+loop-again c =
+    let l = c .before .before .before .before in
+    let at = l .before .loop in
+    let s = l .before .before .before in
+    let row = c .row-of .ensures ∙ ap (rowOf _ _) (c .before .total-without .ensures) in
+    made-next (s .args .t1) (s .args .t2) (few s) (held s) (quantities-held s) (at .i) (l .loop-test .taken) (at .rows) _ (at .inv) row
+
+returns : tie.Need-returns Inv-loop μ-loop
+returns c =
+    let at = c .before .loop in
+    let s = c .before .before .before in
+    made-all (s .args .t1) (s .args .t2) (few s) (held s) (quantities-held s) (at .rows) (at .i) (at .inv) (c .loop-test .left)
+
+pub rows-spec : {M : Type 1} → statement M
+rows-spec =
+    tie.close
+    (tie.spec
+    Inv-loop
+    μ-loop
+    no-row-requires
+    loop-holds
+    mul-bid
+    element-copy-out-bid
+    mul-quantity
+    array-copy-out-quantity
+    total-without-requires
+    row-of-requires
+    mul-rows
+    array-set-from-rows
+    add-i
+    loop-less
+    loop-again
+    returns)

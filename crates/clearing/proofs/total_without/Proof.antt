@@ -1,0 +1,29 @@
+use borrow.Author.Tests.{not-true, not-false}
+use Rattle.book.specs.Entries.{bookEntries}
+use Rattle.book.proofs.Accepted.{book-accepted}
+use Rattle.clearing.proofs.Searchable.{searchable-without}
+use Rattle.clearing.proofs.Answers.{total-amount, total-nothing}
+use Rattle.clearing.proofs.total_without.Statement.{statement}
+use Rattle.clearing.proofs.total_without.Tie as tie
+
+without-requires : tie.Need-without-requires
+without-requires c κs = (c .pre .1, book-accepted (bookEntries (c .args .book)) (c .pre .0) .count-high)
+
+best-division-requires : tie.Need-best-division-requires
+best-division-requires c κs =
+    searchable-without _ (c .before .pre .0) (c .before .args .at) (c .without .result) (c .without .ensures)
+
+returns : tie.Need-returns
+returns c =
+    let best = c .before .before .best-division in
+    let left = c .before .before .before .without in
+    total-nothing (left .result) (best .result) (best .ensures) _ _ (left .ensures) (not-true (best .result .found) (c .if1 .taken))
+
+returns-2 : tie.Need-returns-2
+returns-2 c =
+    let best = c .before .before .before .best-division in
+    let left = c .before .before .before .before .without in
+    total-amount (left .result) (best .result) (best .ensures) _ _ (left .ensures) (not-false (best .result .found) (c .before .if1 .left))
+
+pub total-without-spec : {M : Type 1} → statement M
+total-without-spec = tie.close (tie.spec without-requires best-division-requires returns returns-2)

@@ -1,0 +1,75 @@
+use Prim.Native.Nat.{_-_}
+use mathlib.Core.Path.{_≡_}
+use borrow.Author.Needs.{needs}
+use lib.ListN.{length}
+use Rattle.lists.proofs.Slices.{length-held}
+use Rattle.clearing.proofs.Less.{Moved, moved-none, moved-next, moved-all}
+use Rattle.clearing.proofs.without.Statement.{statement}
+use Rattle.clearing.proofs.without.Tie as tie
+
+abbrev Inv-loop : tie.InvT-loop
+Inv-loop at book count left₀ i₀ left i = Moved at book left i
+
+abbrev μ-loop : tie.MeasureT-loop
+μ-loop at book count left₀ i₀ left i = count - i
+
+held : (c : tie.Start Inv-loop μ-loop) → length (c .args .t1 .bids) ≡ 8
+held c = search (length-held, c .good)
+
+sub-count : tie.Need-sub-count Inv-loop μ-loop
+sub-count c = search needs
+
+loop-holds : tie.Need-loop-holds Inv-loop μ-loop
+loop-holds c = moved-none _ (c .args .t1) (c .pre .1) (held c) (c .pre .0)
+
+add-bid : tie.Need-add-bid Inv-loop μ-loop
+add-bid c = search needs
+
+mul-bid : tie.Need-mul-bid Inv-loop μ-loop
+mul-bid c = search needs
+
+element-copy-out-bid : tie.Need-element-copy-out-bid Inv-loop μ-loop
+element-copy-out-bid c = search needs
+
+mul-bid-2 : tie.Need-mul-bid-2 Inv-loop μ-loop
+mul-bid-2 c = search needs
+
+element-set-from-bid : tie.Need-element-set-from-bid Inv-loop μ-loop
+element-set-from-bid c = search needs
+
+add-i : tie.Need-add-i Inv-loop μ-loop
+add-i c = search needs
+
+loop-less : tie.Need-loop-less Inv-loop μ-loop
+loop-less c = search needs
+
+loop-again : tie.Need-loop-again Inv-loop μ-loop
+loop-again c =
+    let l = c .before in
+    let at = l .before .loop in
+    let s = l .before .before in
+    moved-next _ (s .args .t1) (s .pre .1) (held s) (at .left) (at .i) (at .inv) (l .loop-test .taken)
+
+returns : tie.Need-returns Inv-loop μ-loop
+returns c =
+    let at = c .before .loop in
+    let s = c .before .before in
+    moved-all _ (s .args .t1) (s .pre .1) (held s) (at .left) (at .i) (at .inv) (c .loop-test .left)
+
+pub without-spec : {M : Type 1} → statement M
+without-spec =
+    tie.close
+    (tie.spec
+    Inv-loop
+    μ-loop
+    sub-count
+    loop-holds
+    add-bid
+    mul-bid
+    element-copy-out-bid
+    mul-bid-2
+    element-set-from-bid
+    add-i
+    loop-less
+    loop-again
+    returns)

@@ -1,0 +1,94 @@
+-- Demand 3 of the award as it is defined: it is the one division that no other is at least as good as. Assumes nothing.
+use Prim.Native.Nat.{ℕ, suc}
+use mathlib.Core.Bool.{true}
+use mathlib.Core.List.{List, [], _∷_, map, List·Memᴰ as In, Memᴰ·cast}
+use mathlib.Core.Logic.{_⊎_, inl, inr, _↔_, ⊎-elim}
+use mathlib.Core.Option.{Option, some, none, Option·none-ne-some}
+use mathlib.Core.Path.{_≡_, refl, sym, ap, _∙_, subst}
+use lib.ListN.{length}
+use Rattle.lists.proofs.Members.{in-map, map-in}
+use Rattle.book.specs.declared.Segment.{Segment}
+use Rattle.supply.specs.Allocation.{costOf}
+use Rattle.divisions.specs.Division.{Allocation, Division}
+use Rattle.divisions.specs.Listing.{divisions}
+use Rattle.divisions.specs.Award.{Priced, priced, better, bestOf, awardOf}
+use Rattle.divisions.specs.Best.{Worse, IsAward}
+use Rattle.divisions.proofs.Signed.{less, less-test}
+use Rattle.divisions.proofs.Order.{better-cases, better-cost, better-tie, gives-less, gives-more}
+use Rattle.divisions.proofs.Best.{Best, best-iff, best-unique, best-listed}
+use Rattle.divisions.proofs.Listed.{listed-iff}
+
+-- a division with its cost
+pub record PricedDivision (demand : ℕ) (supplies : List (List Segment)) (d : Priced) : Type 0 where
+  pub division : Division demand supplies (d .quantities)
+  pub cost : d .cost ≡ costOf supplies (d .quantities)
+
+module _ (demand : ℕ) (supplies : List (List Segment)) where
+  pub award-best : Best (PricedDivision demand supplies) (awardOf demand supplies)
+  unfolding awardOf
+  award-best =
+      best-iff (PricedDivision demand supplies) (λ d. In d (map (priced supplies) (divisions demand supplies))) (awardOf demand supplies) to from
+      (best-listed (map (priced supplies) (divisions demand supplies)))
+    where
+      to : (d : Priced) → In d (map (priced supplies) (divisions demand supplies)) → PricedDivision demand supplies d
+      to d h =
+          let (rs, m, e) = map-in (priced supplies) (divisions demand supplies) d h in
+          subst (PricedDivision demand supplies) (sym e) (record { division = listed-iff demand supplies rs .0 m; cost = refl })
+
+      from : (d : Priced) → PricedDivision demand supplies d → In d (map (priced supplies) (divisions demand supplies))
+      from d p =
+          let e : d ≡ priced supplies (d .quantities) = λ i. record { cost = p .cost i; quantities = d .quantities } in
+          Memᴰ·cast e (in-map (priced supplies) (divisions demand supplies) (d .quantities) (listed-iff demand supplies (d .quantities) .1 (p .division)))
+
+  -- no award exactly when there is no division
+  pub no-award-iff : (awardOf demand supplies ≡ none) ↔ ((rs : List ℕ) → Division demand supplies rs → ⊥)
+  no-award-iff = (
+    λ e rs d. subst (Best (PricedDivision demand supplies)) e award-best (priced supplies rs) (record { division = d; cost = refl }),
+    λ f. best-unique (PricedDivision demand supplies) (awardOf demand supplies) none award-best (λ d p. f (d .quantities) (p .division)),
+  )
+
+-- a division has a quantity for each bidder
+as-many : (supplies : List (List Segment)) (rs : List ℕ) → Allocation supplies rs → length rs ≡ length supplies
+as-many [] [] a = refl
+as-many (ss ∷ supplies) (r ∷ rs) a = ap suc (as-many supplies rs (a .1))
+
+module _ (demand : ℕ) (supplies : List (List Segment)) (award : Priced) where
+  one-length : (rs : List ℕ) → Division demand supplies rs → Division demand supplies (award .quantities) → length rs ≡ length (award .quantities)
+  one-length rs d a = as-many supplies rs (d .allocation) ∙ sym (as-many supplies (award .quantities) (a .allocation))
+
+  worse : (rs : List ℕ) → length rs ≡ length (award .quantities) → better award (priced supplies rs) ≡ true → Worse supplies rs award
+  worse rs e h =
+      ⊎-elim
+      (λ k. inl (less (award .cost) (costOf supplies rs) k))
+      (λ k. inr (sym (k .0), gives-less (award .quantities) rs e (k .1)))
+      (better-cases award (priced supplies rs) h)
+
+  better-than : (rs : List ℕ) → length rs ≡ length (award .quantities) → Worse supplies rs award → better award (priced supplies rs) ≡ true
+  better-than rs e (inl h) = better-cost award (priced supplies rs) (less-test (award .cost) (costOf supplies rs) h)
+  better-than rs e (inr h) = better-tie award (priced supplies rs) (sym (h .0)) (gives-more (award .quantities) rs e (h .1))
+
+  -- the award is a division, and every other division costs more, or costs the same and gives less to the first bidder at whom
+  -- the two differ
+  pub award-is : awardOf demand supplies ≡ some award → IsAward demand supplies award
+  award-is e =
+      let (p, rest) = subst (Best (PricedDivision demand supplies)) e (award-best demand supplies) in
+      record {
+        division = p .division;
+        cost = p .cost;
+        others = λ rs d. ⊎-elim (λ k. inl (ap (λ (x : Priced). x .quantities) k)) (λ k. inr (worse rs (one-length rs d (p .division)) k)) (rest (priced supplies rs) (record { division = d; cost = refl }));
+      }
+
+  -- and nothing else is: these words fix it
+  pub only-award : IsAward demand supplies award → awardOf demand supplies ≡ some award
+  only-award a =
+      best-unique (PricedDivision demand supplies) (awardOf demand supplies) (some award) (award-best demand supplies)
+      (record { division = a .division; cost = a .cost }, λ d p. go d p (a .others (d .quantities) (p .division)))
+    where
+      go : (d : Priced) → PricedDivision demand supplies d → (d .quantities ≡ award .quantities) ⊎ Worse supplies (d .quantities) award
+          → (d ≡ award) ⊎ (better award d ≡ true)
+      go d p (inl e) =
+          let cost : d .cost ≡ award .cost = p .cost ∙ ap (costOf supplies) e ∙ sym (a .cost) in
+          inl (λ i. record { cost = cost i; quantities = e i })
+      go d p (inr w) =
+          let same : priced supplies (d .quantities) ≡ d = λ i. record { cost = sym (p .cost) i; quantities = d .quantities } in
+          inr (subst (λ (x : Priced). better award x ≡ true) same (better-than (d .quantities) (one-length (d .quantities) (p .division) (a .division)) w))

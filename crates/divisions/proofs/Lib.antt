@@ -1,0 +1,5 @@
+pub mod Signed
+pub mod Order
+pub mod Best
+pub mod Listed
+pub mod Award

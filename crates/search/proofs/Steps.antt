@@ -1,0 +1,133 @@
+-- The search, a step at a time. Assumes nothing.
+use Prim.Native.Nat.{ℕ, suc, _+_, _≤_, _<_}
+use native.Mathlib.Numerals.{add-one}
+use native.Mathlib.Omega.{arith}
+use mathlib.Core.Bool.{true, false}
+use mathlib.Core.List.{List, [], _∷_, map}
+use mathlib.Core.Option.{Option, none}
+use mathlib.Core.Path.{_≡_, ap, subst, _∙_}
+use lib.ListN.{length, getD, set, take, drop, length-map, List·getD-map, length-take, drop-of-length-le}
+use lib.Seq.{drop-cons, getD-take, length-take-le}
+use Rattle.lists.specs.All.{All}
+use Rattle.lists.proofs.All.{all-at}
+use Rattle.lists.proofs.Latest.{latest-none, latest-set}
+use Rattle.book.specs.declared.Segment.{Segment}
+use Rattle.book.specs.declared.Bid.{Bid}
+use Rattle.book.specs.Entries.{BidEntries, bidEntries}
+use Rattle.book.proofs.Records.{noSegment, noBid}
+use Rattle.book.proofs.Accepted.{AcceptedBid}
+use Rattle.supply.specs.Supply.{segment0, supplyOf, suppliesOf}
+use Rattle.divisions.specs.Award.{Priced, pick}
+use Rattle.choices.proofs.Choice.{fits, filled}
+use Rattle.choices.proofs.Search.{each, leaf, search, searched}
+use Rattle.choices.proofs.Sound.{SoundSegment}
+use Rattle.filling.specs.declared.Best.{Best}
+use Rattle.filling.specs.declared.Choice.{Choice}
+use Rattle.filling.specs.Records.{chosen, Sound, found}
+
+-- A choice: none yet, and one with a segment more.
+
+nothing-chosen : (c : Choice) → c .count ≡ 0 → chosen c ≡ []
+nothing-chosen c e = rw e (latest-none noSegment (c .segments))
+
+pub sound-nothing : (ss : List Segment) → Sound (record { count = 0; segments = ss })
+sound-nothing ss = record { few = omega arith; each = rw latest-none tt }
+
+module _ (c : Choice) (s : Segment) (few : c .count < 8) (held : length (c .segments) ≡ 8) where
+  abbrev more : Choice
+  more = record { count = c .count + 1; segments = set (c .segments) (c .count) s }
+
+  pub chosen-more : chosen more ≡ s ∷ chosen c
+  chosen-more = latest-set noSegment (c .segments) (c .count) s (omega arith)
+
+  pub sound-more : Sound c → SoundSegment s → Sound more
+  sound-more sound h = record { few = omega arith; each = rw chosen-more (h, sound .each) }
+
+-- A complete choice.
+module _ (demand : ℕ) (c : List Segment) (o : Option Priced) where
+  pub unfit : fits demand c ≡ false → o ≡ leaf demand c o
+  unfolding leaf
+  unfit e = rw e
+
+  pub fit : fits demand c ≡ true → (d : Priced) → d ≡ filled demand c → pick o d ≡ leaf demand c o
+  unfolding leaf
+  fit e d f = rw (e, f)
+
+-- for as many bidders as the book has
+pub for-all : (n m : ℕ) (r best : Best) (f : Option Priced → Option Priced) → n ≡ m → found n r ≡ f (found n best) → found m r ≡ f (found m best)
+for-all n m r best f e h = subst (λ (k : ℕ). found k r ≡ f (found k best)) e h
+
+-- A bidder's segments, from the last to the first.
+module _ (f : Segment → Option Priced → Option Priced) (ss : List Segment) (o : Option Priced) where
+  pub each-none : (j : ℕ) → length ss ≤ j → o ≡ each f (drop j ss) o
+  unfolding each
+  each-none j h = rw (drop-of-length-le ss h)
+
+  pub each-next : (j k : ℕ) → j ≡ suc k → k < length ss → (r r′ : Option Priced) → r ≡ each f (drop j ss) o → r′ ≡ f (getD ss k segment0) r
+      → r′ ≡ each f (drop k ss) o
+  unfolding each
+  each-next j k e h r r′ p q = rw (drop-cons ss k segment0 h) (q ∙ ap (f (getD ss k segment0)) (rw e at p))
+
+  pub each-all : (j : ℕ) → j ≡ 0 → (r : Option Priced) → r ≡ each f (drop j ss) o → r ≡ each f ss o
+  each-all j e r p = rw e at p
+
+-- one of them tried, with the bidders after it
+abbrev pub tried : ℕ → List (List Segment) → List Segment → Segment → Option Priced → Option Priced
+tried demand supplies c s = search demand supplies (s ∷ c)
+
+-- The bidders from `at` on.
+module _ (demand : ℕ) (supplies : List (List Segment)) (at : ℕ) (c : List Segment) (o : Option Priced) where
+  search-done : length supplies ≤ at → search demand (drop at supplies) c o ≡ leaf demand c o
+  unfolding search
+  search-done h = rw (drop-of-length-le supplies h)
+
+  search-next : (ss d : List Segment) → at < length supplies → getD supplies at d ≡ ss
+      → search demand (drop at supplies) c o ≡ each (tried demand (drop (at + 1) supplies) c) ss o
+  unfolding search
+  search-next ss d h e = rw (drop-cons supplies at d h, e, add-one)
+
+-- The supply functions of a book's bids.
+module _ (bids : List Bid) (n : ℕ) (held : n ≤ length bids) where
+  abbrev entries : List BidEntries
+  entries = map bidEntries (take n bids)
+
+  length-entries : length entries ≡ n
+  length-entries = length-map (take n bids) bidEntries ∙ length-take-le n bids held
+
+  entry-at : (i : ℕ) → i < n → getD entries i (bidEntries noBid) ≡ bidEntries (getD bids i noBid)
+  entry-at i h = List·getD-map bidEntries (take n bids) i noBid ∙ ap bidEntries (getD-take n bids i noBid h)
+
+  pub accepted-at : (i : ℕ) → i < n → All AcceptedBid entries → AcceptedBid (bidEntries (getD bids i noBid))
+  accepted-at i h all =
+      let l : i < length entries = rw length-entries h in
+      subst AcceptedBid (entry-at i h) (all-at AcceptedBid (bidEntries noBid) entries all i l)
+
+  length-supplies : length (suppliesOf entries) ≡ n
+  length-supplies = length-map entries supplyOf ∙ length-entries
+
+  supply-at : (i : ℕ) → i < n → getD (suppliesOf entries) i (supplyOf (bidEntries noBid)) ≡ supplyOf (bidEntries (getD bids i noBid))
+  supply-at i h = List·getD-map supplyOf entries i (bidEntries noBid) ∙ ap supplyOf (entry-at i h)
+
+  module _ (demand at : ℕ) (c : List Segment) (o : Option Priced) where
+    pub bidders-done : n ≤ at → search demand (drop at (suppliesOf entries)) c o ≡ leaf demand c o
+    bidders-done h = search-done demand (suppliesOf entries) at c o (omega (arith, length-supplies))
+
+    pub bidders-next : at < n
+        → search demand (drop at (suppliesOf entries)) c o
+        ≡ each (tried demand (drop (at + 1) (suppliesOf entries)) c) (supplyOf (bidEntries (getD bids at noBid))) o
+    bidders-next h =
+        let l : at < length (suppliesOf entries) = rw length-supplies h in
+        search-next demand (suppliesOf entries) at c o _ (supplyOf (bidEntries noBid)) l (supply-at at h)
+
+-- Of a bid, segment 0 and those that it counts.
+module _ (b : Bid) where
+  pub few-segments : length (supplyOf (bidEntries b)) ≤ b .count + 1
+  few-segments = rw length-take (omega arith)
+
+  pub held-segment : b .count ≤ 6 → length (b .segments) ≡ 6 → (j : ℕ) → j ≤ b .count → j < length (supplyOf (bidEntries b))
+  held-segment few held j h = rw (length-take-le (b .count) (b .segments) (omega arith)) (omega arith)
+
+-- The search from no choice and no division.
+pub from-nothing : (demand : ℕ) (supplies : List (List Segment)) (n : ℕ) (c : Choice) (best : Best) → c .count ≡ 0 → best .found ≡ false
+    → search demand supplies (chosen c) (found n best) ≡ searched demand supplies
+from-nothing demand supplies n c best e f = rw (nothing-chosen c e, f)

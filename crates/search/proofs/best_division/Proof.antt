@@ -1,0 +1,32 @@
+use mathlib.Core.Path.{_∙_}
+use borrow.Author.Needs.{needs}
+use Rattle.book.specs.Entries.{bookEntries}
+use Rattle.supply.specs.Supply.{suppliesOf}
+use Rattle.choices.proofs.Accepted.{sound-supplies}
+use Rattle.choices.proofs.Finds.{finds}
+use Rattle.search.proofs.Steps.{from-nothing}
+use Rattle.search.proofs.best_division.Statement.{statement}
+use Rattle.search.proofs.best_division.Tie as tie
+
+no-division-requires : tie.Need-no-division-requires
+no-division-requires c κs = search needs
+
+no-choice-requires : tie.Need-no-choice-requires
+no-choice-requires c κs = search needs
+
+search-requires : tie.Need-search-requires
+search-requires c κs = search needs
+
+returns : tie.Need-returns
+returns c =
+    let empty = c .before .no-choice in
+    let none = c .before .before .no-division in
+    let s = c .before .before .before in
+    let b = s .args .book in
+    let supplies = suppliesOf (bookEntries b .bids) in
+    c .search .ensures
+    ∙ from-nothing (b .demand .0) supplies (b .count) (empty .result) (none .result) (empty .ensures .0) (none .ensures)
+    ∙ finds (b .demand .0) supplies (sound-supplies (bookEntries b .bids) (s .pre .bids))
+
+pub best-division-spec : {M : Type 1} → statement M
+best-division-spec = tie.close (tie.spec no-division-requires no-choice-requires search-requires returns)

@@ -1,0 +1,37 @@
+use mathlib.Core.Path.{sym, _∙_}
+use borrow.Author.Needs.{needs}
+use Rattle.lists.proofs.Tests.{passed, failed}
+use Rattle.filling.specs.Records.{divisionIn}
+use Rattle.search.proofs.Compare.{dearer, cheaper, as-cheap}
+use Rattle.search.proofs.better.Statement.{statement}
+use Rattle.search.proofs.better.Tie as tie
+
+at-most-requires : tie.Need-at-most-requires
+at-most-requires c κs = search needs
+
+returns : tie.Need-returns
+returns c =
+    let a = c .before .before .before .before .args in
+    sym (dearer (divisionIn (a .n) (a .a)) (divisionIn (a .n) (a .b)) (failed (c .before .at-most .ensures) (c .if1 .taken)))
+
+at-most-requires-2 : tie.Need-at-most-requires-2
+at-most-requires-2 c κs = search needs
+
+returns-2 : tie.Need-returns-2
+returns-2 c =
+    let a = c .before .before .before .before .before .before .args in
+    sym (cheaper (divisionIn (a .n) (a .a)) (divisionIn (a .n) (a .b)) (failed (c .before .at-most2 .ensures) (c .if2 .taken)))
+
+gives-more-requires : tie.Need-gives-more-requires
+gives-more-requires c κs = search needs
+
+returns-3 : tie.Need-returns-3
+returns-3 c =
+    let f = c .before .before .before in
+    let e = f .before .before in
+    let a = e .before .before .before .before .args in
+    let tie = as-cheap (divisionIn (a .n) (a .a)) (divisionIn (a .n) (a .b)) (passed (e .before .at-most .ensures) (e .if1 .left)) (passed (f .before .at-most2 .ensures) (f .if2 .left)) in
+    c .gives-more .ensures ∙ sym tie
+
+pub better-spec : {M : Type 1} → statement M
+better-spec = tie.close (tie.spec at-most-requires returns at-most-requires-2 returns-2 gives-more-requires returns-3)

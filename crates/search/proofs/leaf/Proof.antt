@@ -1,0 +1,32 @@
+use mathlib.Core.Path.{_∙_}
+use borrow.Author.Needs.{needs}
+use Rattle.lists.proofs.Tests.{passed, failed}
+use Rattle.filling.specs.Records.{chosen, divisionIn, found}
+use Rattle.search.proofs.Steps.{unfit, fit}
+use Rattle.search.proofs.leaf.Statement.{statement}
+use Rattle.search.proofs.leaf.Tie as tie
+
+fits-requires : tie.Need-fits-requires
+fits-requires c κs = search needs
+
+returns : tie.Need-returns
+returns c =
+    let a = c .before .before .args in
+    unfit (a .demand .0) (chosen (a .c)) (found (a .c .count) (a .best)) (failed (c .before .fits2 .ensures) (c .if1 .taken))
+
+fill-requires : tie.Need-fill-requires
+fill-requires c κs = (c .before .before .pre, passed (c .before .fits2 .ensures) (c .if1 .left))
+
+pick-requires : tie.Need-pick-requires
+pick-requires c κs = search needs
+
+returns-2 : tie.Need-returns-2
+returns-2 c =
+    let new = c .before .fill in
+    let e = c .before .before in
+    let a = e .before .before .args in
+    let fitting = passed (e .before .fits2 .ensures) (e .if1 .left) in
+    c .pick .ensures ∙ fit (a .demand .0) (chosen (a .c)) (found (a .c .count) (a .best)) fitting (divisionIn (a .c .count) (new .result)) (new .ensures .1)
+
+pub leaf-spec : {M : Type 1} → statement M
+leaf-spec = tie.close (tie.spec fits-requires returns fill-requires pick-requires returns-2)

@@ -1,0 +1,10 @@
+use mathlib.Core.Path.{refl}
+use Rattle.search.proofs.Steps.{sound-nothing}
+use Rattle.search.proofs.no_choice.Statement.{statement}
+use Rattle.search.proofs.no_choice.Tie as tie
+
+returns : tie.Need-returns
+returns c = (refl, sound-nothing _)
+
+pub no-choice-spec : {M : Type 1} → statement M
+no-choice-spec = tie.close (tie.spec returns)

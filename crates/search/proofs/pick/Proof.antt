@@ -1,0 +1,32 @@
+use mathlib.Core.Path.{sym, _∙_}
+use borrow.Author.Needs.{needs}
+use borrow.Author.Tests.{not-true, not-false}
+use Rattle.search.proofs.Compare.{pick-first, pick-new, pick-best}
+use Rattle.search.proofs.pick.Statement.{statement}
+use Rattle.search.proofs.pick.Tie as tie
+
+returns : tie.Need-returns
+returns c =
+    let s = c .before .before in
+    let a = s .args in
+    pick-first (a .n) (a .best) (a .new) (s .pre .1) (not-true (a .best .found) (c .if1 .taken))
+
+better-requires : tie.Need-better-requires
+better-requires c κs = search needs
+
+returns-2 : tie.Need-returns-2
+returns-2 c =
+    let e = c .before .before in
+    let s = e .before .before in
+    let a = s .args in
+    pick-new (a .n) (a .best) (a .new) (s .pre .1) (not-false (a .best .found) (e .if1 .left)) (sym (c .before .better .ensures) ∙ c .if2 .taken)
+
+returns-3 : tie.Need-returns-3
+returns-3 c =
+    let e = c .before .before in
+    let s = e .before .before in
+    let a = s .args in
+    pick-best (a .n) (a .best) (a .new) (s .pre .1) (not-false (a .best .found) (e .if1 .left)) (sym (c .before .better .ensures) ∙ c .if2 .left)
+
+pub pick-spec : {M : Type 1} → statement M
+pick-spec = tie.close (tie.spec returns better-requires returns-2 returns-3)
