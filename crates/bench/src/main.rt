@@ -1,5 +1,5 @@
-// Clears two large books and prints their totals, for the time that it takes. All bidders have six segments of nearly equal
-// width and price, and the demand lies in the middle of what is offered: of all choices of segments, more than a third fit.
+// Clears two large books and prints their totals, for the time that it takes. All bidders have six segments of one width and
+// of like prices, and the demands are met by choices of many kinds: of all choices, more than a quarter fit.
 ghost use Prim.Native.Nat.{_≤_};
 use book::Bid;
 use book::Book;
@@ -10,7 +10,7 @@ use money::CentsPerBlank;
 
 fn main() {
     cleared(b"six bidders, 40000 blanks", book(6, 40_000));
-    cleared(b"eight bidders, 40000 blanks", book(8, 40_000));
+    cleared(b"eight bidders, 35000 blanks", book(8, 35_000));
 }
 
 fn cleared(name: &[u8], book: Book) {
