@@ -19,7 +19,7 @@ fn cleared(name: &[u8], book: Book) {
     report::verdict(name, verdict);
     let total = r.award.total;
     report::text(b"total ");
-    report::number(money::magnitude(total));
+    report::cents(total);
     report::text(b"\n");
 }
 

@@ -1,6 +1,5 @@
 // Runs the cases of document 01, section "Cases", that concern records, and others at the edges of
 // the rules, and prints what it gets. What it must print stands in stdout.
-mod books;
 mod check_cases;
 mod sample_cases;
 mod show;

@@ -1,14 +1,6 @@
 // The answers of the entries on records, as lines of standard output.
 use book::RoomFigure;
-use money::Cents;
 use split::SplitPrice;
-
-fn cents(c: Cents) {
-    if !money::at_most(Cents(0), c) {
-        report::text(b"-");
-    }
-    report::number(money::magnitude(c));
-}
 
 pub fn split(name: &[u8], r: SplitPrice) {
     report::text(name);
@@ -17,7 +9,7 @@ pub fn split(name: &[u8], r: SplitPrice) {
     report::outcome(verdict);
     report::text(b", ");
     let price = r.price;
-    cents(price);
+    report::cents(price);
     if r.meets {
         report::text(b", yes\n");
     } else {

@@ -1,5 +1,4 @@
 // Proposed splits.
-use crate::books;
 use crate::show;
 use book::Book;
 use money::Blanks;
@@ -10,7 +9,7 @@ fn of_three(name: &[u8], book: Book, a: u64, b: u64, c: u64) {
 }
 
 pub fn run() {
-    let book = books::blanks(120);
+    let book = samplebooks::blanks(120);
     of_three(b"split 60 60 0", book, 60, 60, 0);
     of_three(b"split 60 10 0", book, 60, 10, 0);
     of_three(b"split 100 20 0", book, 100, 20, 0);
@@ -18,10 +17,16 @@ pub fn run() {
     of_three(b"split 61 0 120", book, 61, 0, 120);
     of_three(b"split 101 0 0", book, 101, 0, 0);
     of_three(b"split 0 0 119", book, 0, 0, 119);
-    of_three(b"split 60 60 0 with demand 0", books::blanks(0), 60, 60, 0);
+    of_three(
+        b"split 60 60 0 with demand 0",
+        samplebooks::blanks(0),
+        60,
+        60,
+        0,
+    );
     of_three(
         b"split 60 60 0 with demand 301",
-        books::blanks(301),
+        samplebooks::blanks(301),
         60,
         60,
         0,
@@ -32,7 +37,7 @@ pub fn run() {
 }
 
 fn lengths() {
-    let book = books::blanks(120);
+    let book = samplebooks::blanks(120);
     let none: [u64; 0] = [];
     show::split(b"split of no quantity", split::price_split(book, &none));
     let two = [60, 60];
@@ -45,19 +50,19 @@ fn lengths() {
 
 // A quantity between two segments is on none.
 fn gap() {
-    let gapped = books::two(
+    let gapped = samplebooks::two(
         3,
-        books::segment(1, 50, 400, 0),
-        books::segment(61, 100, 350, -500),
+        samplebooks::segment(1, 50, 400, 0),
+        samplebooks::segment(61, 100, 350, -500),
     );
-    let book = books::three(120, gapped, books::bid8(), books::bid12());
+    let book = samplebooks::book(120, 3, gapped, samplebooks::bid8(), samplebooks::bid12());
     of_three(b"split 55 60 0 with a gap from 51 to 60", book, 55, 60, 0);
 }
 
 // A price beyond 32 bits.
 fn wide() {
-    let dear = books::one(3, books::segment(1, 12_000, 400_000, 0));
-    let mut book = books::three(12_000, dear, books::bid8(), books::bid12());
+    let dear = samplebooks::one(3, samplebooks::segment(1, 12_000, 400_000, 0));
+    let mut book = samplebooks::book(12_000, 3, dear, samplebooks::bid8(), samplebooks::bid12());
     book.count = 1;
     let quantities = [12_000];
     show::split(

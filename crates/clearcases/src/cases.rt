@@ -1,5 +1,4 @@
 // The cases of document 01, section "Cases", that concern the clearing of a record.
-use crate::books;
 use crate::show;
 
 pub fn run() {
@@ -12,40 +11,46 @@ pub fn run() {
 }
 
 fn demands() {
-    show::cleared(b"demand 120", books::blanks(120));
-    show::cleared(b"demand 19", books::blanks(19));
-    show::cleared(b"demand 60", books::blanks(60));
-    show::cleared(b"demand 61", books::blanks(61));
+    show::cleared(b"demand 120", samplebooks::blanks(120));
+    show::cleared(b"demand 19", samplebooks::blanks(19));
+    show::cleared(b"demand 60", samplebooks::blanks(60));
+    show::cleared(b"demand 61", samplebooks::blanks(61));
 }
 
 fn large_demands() {
-    show::cleared(b"demand 181", books::blanks(181));
-    show::cleared(b"demand 300", books::blanks(300));
-    show::cleared(b"demand 301", books::blanks(301));
+    show::cleared(b"demand 181", samplebooks::blanks(181));
+    show::cleared(b"demand 300", samplebooks::blanks(300));
+    show::cleared(b"demand 301", samplebooks::blanks(301));
 }
 
 fn equal_bidders() {
-    let s = books::segment(1, 10, 5, 0);
-    let book = books::pair(10, books::one(1, s), books::one(2, s));
+    let s = samplebooks::segment(1, 10, 5, 0);
+    let book = samplebooks::pair(10, samplebooks::one(1, s), samplebooks::one(2, s));
     show::cleared(b"two equal bidders, demand 10", book);
 }
 
 fn alone() {
-    let bid = books::bid12();
-    show::cleared(b"bidder 12 alone, demand 119", books::alone(119, bid));
-    show::cleared(b"bidder 12 alone, demand 120", books::alone(120, bid));
+    let bid = samplebooks::bid12();
+    show::cleared(b"bidder 12 alone, demand 119", samplebooks::alone(119, bid));
+    show::cleared(b"bidder 12 alone, demand 120", samplebooks::alone(120, bid));
 }
 
 // A price of 0 at a start, and one below it.
 fn prices_at_starts() {
-    show::cleared(b"seg 61 100 350 -21350", books::with_fixed(120, -21_350));
-    show::cleared(b"seg 61 100 350 -21351", books::with_fixed(120, -21_351));
+    show::cleared(
+        b"seg 61 100 350 -21350",
+        samplebooks::with_fixed(120, -21_350),
+    );
+    show::cleared(
+        b"seg 61 100 350 -21351",
+        samplebooks::with_fixed(120, -21_351),
+    );
 }
 
 // Refused by the rules for records.
 fn refused() {
-    show::cleared(b"demand 0", books::blanks(0));
-    let mut book = books::blanks(120);
+    show::cleared(b"demand 0", samplebooks::blanks(0));
+    let mut book = samplebooks::blanks(120);
     book.count = 0;
     show::cleared(b"no bids", book);
 }

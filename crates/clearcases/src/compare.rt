@@ -53,7 +53,7 @@ fn count() -> Counts {
 }
 
 fn counted(c: Counts, book: Book) -> Counts {
-    let verdict = book::check(book);
+    let verdict = bookrules::check(book);
     if let Verdict::Refused(_, _) = verdict {
         return with_refused(c);
     }

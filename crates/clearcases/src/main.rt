@@ -2,7 +2,6 @@
 // Then clears small books a second way, by listing all splits, and prints how often the two agree.
 // What it must print stands in stdout.
 mod agree;
-mod books;
 mod cases;
 mod compare;
 mod edges;

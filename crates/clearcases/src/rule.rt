@@ -1,7 +1,6 @@
 // Small books made by a fixed rule: demands from 1 to 8, one to three bids of one to three segments. The rule goes from a
 // number to the next, and takes several small numbers from each by division and remainder.
 ghost use Prim.Native.Nat.{_+_, _≤_};
-use crate::books;
 use book::Bid;
 use book::Book;
 use book::Segment;
@@ -27,7 +26,7 @@ pub fn book(x: u64) -> Book {
     let z = next_bid(y);
     let demand = 1 + x % 8;
     let count = bids(x / 8 % 4);
-    books::book(demand, count, bid(2, y), bid(5, z), bid(7, next_bid(z)))
+    samplebooks::book(demand, count, bid(2, y), bid(5, z), bid(7, next_bid(z)))
 }
 
 // Three more often than one or two: most splits are theirs.
@@ -46,7 +45,7 @@ fn bid(bidder: u64, x: u64) -> Bid {
     let b = segment(y, a.end.0);
     let c = segment(z, b.end.0);
     let count = 1 + (next(z) % 3) as usize;
-    books::bid(bidder, count, a, b, c)
+    samplebooks::bid(bidder, count, a, b, c)
 }
 
 // A segment of one to four blanks, the first or the second above the end before it, with a unit price from 0 to 3. The fixed
@@ -60,7 +59,7 @@ fn segment(x: u64, before: u64) -> Segment
     let end = start + x / 2 % 4;
     let unit = x / 8 % 4;
     let off = cost(unit, some(x / 32 % 3, start));
-    books::segment(start, end, unit, difference(x / 96 % 3, off))
+    samplebooks::segment(start, end, unit, difference(x / 96 % 3, off))
 }
 
 // All, one or none of the blanks up to a start.

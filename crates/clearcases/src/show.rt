@@ -14,10 +14,7 @@ fn next(n: u64) {
 
 fn cents(c: Cents) {
     report::text(b" ");
-    if !money::at_most(Cents(0), c) {
-        report::text(b"-");
-    }
-    report::number(money::magnitude(c));
+    report::cents(c);
 }
 
 fn without(total: Total) {

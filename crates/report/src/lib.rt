@@ -1,5 +1,6 @@
 // What a test program got, as lines of standard output. The functions are pub for the test programs. They have no contract: what is
 // printed is compared with a file and not proved.
+use money::Cents;
 use refusal::Verdict;
 
 pub fn text(t: &[u8]) {
@@ -8,6 +9,13 @@ pub fn text(t: &[u8]) {
 
 pub fn number(n: u64) {
     io::print_decimal(1, n);
+}
+
+pub fn cents(c: Cents) {
+    if !money::at_most(Cents(0), c) {
+        text(b"-");
+    }
+    number(money::magnitude(c));
 }
 
 pub fn outcome(verdict: Verdict) {

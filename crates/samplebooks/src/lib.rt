@@ -1,4 +1,5 @@
-// Books put together from segments and bids; the book of document 01, section "The bid book".
+// Books for the test programs, put together from segments and bids; the book of document 01, section
+// "The bid book". The functions are pub for these programs.
 ghost use mathlib.Core.Path.{_≡_};
 use book::Bid;
 use book::Book;
@@ -33,6 +34,12 @@ pub fn bid(bidder: u64, count: usize, a: Segment, b: Segment, c: Segment) -> Bid
     }
 }
 
+// A bid without segments.
+fn empty() -> Bid {
+    let none = past();
+    bid(0, 0, none, none, none)
+}
+
 // A bid of one segment.
 pub fn one(bidder: u64, s: Segment) -> Bid {
     let none = past();
@@ -46,7 +53,7 @@ pub fn two(bidder: u64, s: Segment, t: Segment) -> Bid {
 
 // A book of the first `count` of three bids.
 pub fn book(demand: u64, count: usize, a: Bid, b: Bid, c: Bid) -> Book {
-    let none = one(0, past());
+    let none = empty();
     Book {
         demand: Blanks(demand),
         count,
@@ -64,7 +71,16 @@ pub fn pair(demand: u64, a: Bid, b: Bid) -> Book {
     book(demand, 2, a, b, b)
 }
 
-fn bid8() -> Bid {
+// Bidder 3 with another fixed price in its second segment.
+fn bid3_with(fixed: i64) -> Bid {
+    two(3, segment(1, 60, 400, 0), segment(61, 100, 350, fixed))
+}
+
+pub fn bid3() -> Bid {
+    bid3_with(-500)
+}
+
+pub fn bid8() -> Bid {
     one(8, segment(20, 80, 380, 1000))
 }
 
@@ -72,10 +88,9 @@ pub fn bid12() -> Bid {
     one(12, segment(120, 120, 370, 0))
 }
 
-// The book of document 01 with another fixed price in bidder 3's second segment.
+// The book of document 01 with another demand, and another fixed price in bidder 3's second segment.
 pub fn with_fixed(demand: u64, fixed: i64) -> Book {
-    let bid3 = two(3, segment(1, 60, 400, 0), segment(61, 100, 350, fixed));
-    book(demand, 3, bid3, bid8(), bid12())
+    book(demand, 3, bid3_with(fixed), bid8(), bid12())
 }
 
 // The book of document 01 with another demand.
