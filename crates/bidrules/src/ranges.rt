@@ -3,31 +3,21 @@ ghost use mathlib.Core.Path.{_≡_};
 ghost use Prim.Native.Nat.{_≤_};
 ghost use Rattle.lists.specs.Every.{every};
 ghost use Rattle.book.specs.Entries.{bidEntries};
-ghost use Rattle.book.specs.Rules.{within, segmentInRange};
+ghost use Rattle.book.specs.Rules.{segmentInRange};
 use book::Bid;
 use book::Segment;
 use money::Cents;
 
-// From low to high, both counted.
-pub fn within(low: u64, high: u64, n: u64) -> bool
-    ensures { λ r. ⌜ r ≡ within low high n ⌝ }
-{
-    if n < low {
-        return false;
-    }
-    n <= high
-}
-
 fn segment_in_range(s: Segment) -> bool
     ensures { λ r. ⌜ r ≡ segmentInRange s ⌝ }
 {
-    if !within(1, 1_000_000, s.start.0) {
+    if !crate::within(1, 1_000_000, s.start.0) {
         return false;
     }
-    if !within(1, 1_000_000, s.end.0) {
+    if !crate::within(1, 1_000_000, s.end.0) {
         return false;
     }
-    if !within(0, 1_000_000, s.unit.0) {
+    if !crate::within(0, 1_000_000, s.unit.0) {
         return false;
     }
     let fixed = s.fixed;

@@ -1,6 +1,6 @@
 use borrow.Author.Tests.{lt-leb, le-leb}
-use Rattle.bidrules.proofs.ranges.within.Statement.{statement}
-use Rattle.bidrules.proofs.ranges.within.Tie as tie
+use Rattle.bidrules.proofs.within.Statement.{statement}
+use Rattle.bidrules.proofs.within.Tie as tie
 
 returns : tie.Need-returns
 returns c = simp (lt-leb _ _ (c .if1 .taken))
