@@ -125,9 +125,6 @@ module _ (b : Bid) where
   pub few-segments : length (supplyOf (bidEntries b)) ≤ b .count + 1
   few-segments = rw length-take (omega arith)
 
-  pub held-segment : b .count ≤ 6 → length (b .segments) ≡ 6 → (j : ℕ) → j ≤ b .count → j < length (supplyOf (bidEntries b))
-  held-segment few held j h = rw (length-take-le (b .count) (b .segments) (omega arith)) (omega arith)
-
 -- The search from no choice and no division.
 pub from-nothing : (demand : ℕ) (supplies : List (List Segment)) (n : ℕ) (c : Choice) (best : Best) → c .count ≡ 0 → best .found ≡ false
     → search demand supplies (chosen c) (found n best) ≡ searched demand supplies

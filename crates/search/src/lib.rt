@@ -3,16 +3,14 @@ ghost use mathlib.Core.Path.{_≡_};
 ghost use mathlib.Core.Bool.{true, false};
 ghost use mathlib.Core.List.{_∷_};
 ghost use Prim.Native.Nat.{_+_, _≤_, _<_};
-ghost use lib.ListN.{length, getD, take, drop};
-ghost use Rattle.book.specs.Entries.{bidEntries, bookEntries};
-ghost use Rattle.book.proofs.Accepted.{AcceptedBid};
-ghost use Rattle.supply.specs.Supply.{segment0, supplyOf, suppliesOf};
+ghost use lib.ListN.{take, drop};
+ghost use Rattle.book.specs.Entries.{bookEntries};
+ghost use Rattle.supply.specs.Supply.{suppliesOf};
 ghost use Rattle.divisions.specs.Award.{givesMore, better, pick, awardOf};
 ghost use Rattle.choices.proofs.Search.{leaf, search};
 ghost use Rattle.choices.proofs.Sound.{SoundSegment};
 ghost use Rattle.filling.specs.Records.{chosen, Sound, blanksIn, divisionIn, found};
 ghost use Rattle.search.specs.Searchable.{Searchable};
-use book::Bid;
 use book::Book;
 use book::Segment;
 use filling::Best;
@@ -104,18 +102,6 @@ fn choose(c: Choice, s: Segment) -> Choice
     next
 }
 
-// The segment with this number of an accepted bid's supply function. The record holds each segment
-// that the bid counts, so there is one.
-fn segment_to_try(bid: Bid, number: usize) -> Segment
-    requires { ⌜ AcceptedBid (bidEntries bid) ⌝ }
-    requires { ⌜ number ≤ bid .count ⌝ }
-    ensures { λ r. ⌜ r ≡ getD (supplyOf (bidEntries bid)) number segment0 ⌝ }
-    ensures { λ r. ⌜ number < length (supplyOf (bidEntries bid)) ⌝ }
-    ensures { λ r. ⌜ SoundSegment r ⌝ }
-{
-    supply::segment_of(bid, number)
-}
-
 // A segment is chosen for bidder `at`, each in turn from its last to segment 0, and the search calls
 // itself for the bidders after it; after the last the choice is complete. It returns the best
 // division so far.
@@ -134,7 +120,7 @@ fn search(book: Book, at: usize, c: Choice, best: Best) -> Best
     let mut j = bid.count + 1;
     while 0 < j {
         j -= 1;
-        let s = segment_to_try(bid, j);
+        let s = supply::segment_of(bid, j);
         let next = choose(c, s);
         so_far = search(book, at + 1, next, so_far);
     }

@@ -1,8 +1,8 @@
 // A bid's supply function: which quantities it offers, and at what price.
 ghost use mathlib.Core.Path.{_≡_};
 ghost use mathlib.Core.Bool.{true};
-ghost use Prim.Native.Nat.{_≤_};
-ghost use lib.ListN.{getD};
+ghost use Prim.Native.Nat.{_≤_, _<_};
+ghost use lib.ListN.{length, getD};
 ghost use Rattle.lists.specs.Every.{every};
 ghost use Rattle.book.specs.Entries.{bidEntries};
 ghost use Rattle.book.specs.Rules.{segmentInRange};
@@ -53,11 +53,13 @@ pub fn price_at(bid: Bid, quantity: Blanks) -> Offer
     Offer::NotOffered
 }
 
-// The segment of a bid's supply function with this number; segment 0 is nothing at price 0. It is pub
-// for the search, which goes through them.
+// The segment of a bid's supply function with this number; segment 0 is nothing at price 0. The record
+// holds each segment that the bid counts, so there is one. It is pub for the search, which goes
+// through them.
 pub fn segment_of(bid: Bid, number: usize) -> Segment
     requires { ⌜ bid .count ≤ 6 ⌝ }
     requires { ⌜ number ≤ bid .count ⌝ }
+    ensures { λ r. ⌜ number < length (supplyOf (bidEntries bid)) ⌝ }
     ensures { λ r. ⌜ r ≡ getD (supplyOf (bidEntries bid)) number segment0 ⌝ }
 {
     if number == 0 {

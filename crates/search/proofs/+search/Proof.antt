@@ -12,6 +12,7 @@ use Rattle.book.proofs.Records.{noBid}
 use Rattle.book.proofs.Accepted.{AcceptedBid}
 use Rattle.supply.specs.Supply.{supplyOf, suppliesOf}
 use Rattle.choices.proofs.Search.{each, leaf}
+use Rattle.choices.proofs.Accepted.{sound-segment-at}
 use Rattle.filling.specs.Records.{chosen, found}
 use Rattle.search.proofs.Steps.{for-all, each-none, each-next, each-all, tried, accepted-at, bidders-done, bidders-next, few-segments}
 use Rattle.search.proofs.search.Reads as search′
@@ -19,7 +20,7 @@ use Rattle.search.proofs.search.Kinds as search-kinds
 use Rattle.search.proofs.+search.Lts-search as search-lts
 use Rattle.search.proofs.choose.Reads as choose-reads
 use Rattle.search.proofs.leaf.Reads as leaf-reads
-use Rattle.search.proofs.segment_to_try.Reads as segment-to-try-reads
+use Rattle.supply.proofs.segment_of.Reads as segment-of-reads
 use Rattle.search.proofs.+search.{statement}
 use Rattle.search.proofs.+search.Tie.{close}
 
@@ -37,8 +38,8 @@ abbrev R : ℕ → search-lts.Claims
 R t = (
   leaf-reads.Asked,
   leaf-reads.Learnt,
-  segment-to-try-reads.Asked,
-  segment-to-try-reads.Learnt,
+  segment-of-reads.Asked,
+  segment-of-reads.Learnt,
   choose-reads.Asked,
   choose-reads.Learnt,
   search-below t,
@@ -107,14 +108,16 @@ search-loop-holds t c =
 search-sub-j : (t : ℕ) → search-lts.Need-sub-j (R t) (search-at t) search′.Post search-Inv-loop search-μ-loop
 search-sub-j t c = search needs
 
-search-segment-to-try-requires : (t : ℕ) → search-lts.Need-segment-to-try-requires (R t) (search-at t) search′.Post search-Inv-loop search-μ-loop
-search-segment-to-try-requires t c κs = (accepted t (c .before .before .before .before), omega (arith, c .before .loop .inv .0))
+search-segment-of-requires : (t : ℕ) → search-lts.Need-segment-of-requires (R t) (search-at t) search′.Post search-Inv-loop search-μ-loop
+search-segment-of-requires t c κs = (accepted t (c .before .before .before .before) .count-high, omega (arith, c .before .loop .inv .0))
 
 search-choose-requires : (t : ℕ) → search-lts.Need-choose-requires (R t) (search-at t) search′.Post search-Inv-loop search-μ-loop
 search-choose-requires t c κs =
     let e = c .before .before .before .before .before in
     let s = e .before in
-    (s .pre .1 .1 .0, (c .segment-to-try .ensures .1 .1, omega (arith, further t e, s .pre .1 .0 .few, s .pre .1 .1 .1 .1)))
+    let tried-next = c .segment-of .ensures in
+    let sound = sound-segment-at (bidEntries (bid t e)) (accepted t e) _ (tried-next .0) in
+    (s .pre .1 .1 .0, (rw (tried-next .1) sound, omega (arith, further t e, s .pre .1 .0 .few, s .pre .1 .1 .1 .1)))
 
 search-add-search : (t : ℕ) → search-lts.Need-add-search (R t) (search-at t) search′.Post search-Inv-loop search-μ-loop
 search-add-search t c =
@@ -137,15 +140,15 @@ search-loop-less t c = search needs
 search-loop-again : (t : ℕ) → search-lts.Need-loop-again (R t) (search-at t) search′.Post search-Inv-loop search-μ-loop
 search-loop-again t c =
     let chosen-next = c .before .choose .ensures .1 .0 in
-    let tried-next = c .before .before .segment-to-try .ensures in
+    let tried-next = c .before .before .segment-of .ensures in
     let l = c .before .before .before in
     let i = l .before .loop in
     let e = l .before .before .before .before in
     let a = e .before .args in
     let b = bid t e in
     let next : i .j ≡ suc (i .j - 1) = omega (arith, l .loop-test .taken) in
-    let found-next = rw (chosen-next, tried-next .0) at (c .search .ensures) in
-    let again = each-next _ (supplyOf (bidEntries b)) _ (i .j) (i .j - 1) next (tried-next .1 .0) (found (a .t1 .count) (i .so-far)) _ (i .inv .1) found-next in
+    let found-next = rw (chosen-next, tried-next .1) at (c .search .ensures) in
+    let again = each-next _ (supplyOf (bidEntries b)) _ (i .j) (i .j - 1) next (tried-next .0) (found (a .t1 .count) (i .so-far)) _ (i .inv .1) found-next in
     (omega (arith, i .inv .0), again)
 
 search-returns-2 : (t : ℕ) → search-lts.Need-returns-2 (R t) (search-at t) search′.Post search-Inv-loop search-μ-loop
@@ -170,7 +173,7 @@ pub +search-spec : {M : Type 1} → statement M
     (search-add-j t)
     (search-loop-holds t)
     (search-sub-j t)
-    (search-segment-to-try-requires t)
+    (search-segment-of-requires t)
     (search-choose-requires t)
     (search-add-search t)
     (search-search-requires t)

@@ -1,10 +1,22 @@
+use Prim.Native.Nat.{_<_}
+use mathlib.Core.Path.{_≡_}
+use native.Mathlib.Omega.{arith}
 use borrow.Author.Needs.{needs}
-use Rattle.supply.proofs.Numbers.{numbered}
+use lib.ListN.{length}
+use Rattle.lists.proofs.Slices.{length-held}
+use Rattle.book.specs.Entries.{bidEntries}
+use Rattle.supply.specs.Supply.{supplyOf}
+use Rattle.supply.proofs.Numbers.{number-held, numbered}
 use Rattle.supply.proofs.segment_of.Statement.{statement}
 use Rattle.supply.proofs.segment_of.Tie as tie
 
+there : (s : tie.Start) → s .args .number < length (supplyOf (bidEntries (s .args .t1)))
+there s =
+    let h : length (s .args .t1 .segments) ≡ 6 = search (length-held, s .good) in
+    number-held (s .args .t1 .segments) (s .args .t1 .count) (s .args .number) (omega (arith, s .pre .0)) (s .pre .1)
+
 returns : tie.Need-returns
-returns c = rw (c .if1 .taken)
+returns c = (there (c .before), rw (c .if1 .taken))
 
 sub-result : tie.Need-sub-result
 sub-result c = search needs
@@ -18,7 +30,7 @@ element-copy-out-result c = search needs
 returns-2 : tie.Need-returns-2
 returns-2 c =
     let s = c .before .before in
-    numbered (s .args .t1 .segments) (s .args .t1 .count) (s .args .number) (c .before .if1 .left) (s .pre .1)
+    (there s, numbered (s .args .t1 .segments) (s .args .t1 .count) (s .args .number) (c .before .if1 .left) (s .pre .1))
 
 pub segment-of-spec : {M : Type 1} → statement M
 segment-of-spec = tie.close (tie.spec returns sub-result mul-result element-copy-out-result returns-2)
