@@ -1,47 +1,39 @@
 -- Demand 3, of every record that is accepted and of what clearing answers for it. That the record's array of bids has its eight places
 -- is what the language guarantees (`held`). Assumes nothing.
-use Prim.Native.Nat.{ℕ, suc, _-_, _≤_, _<_}
+use Prim.Native.Nat.{ℕ, _-_, _≤_, _<_}
 use native.Mathlib.Omega.{arith}
-use mathlib.Core.List.{List, _++_, map}
+use mathlib.Core.List.{List, [], _∷_}
 use mathlib.Core.Logic.{_↔_}
 use mathlib.Core.Option.{Option, some, none}
 use mathlib.Core.Path.{_≡_, refl, sym, ap, _∙_, subst}
 use lib.IntN.{ℤ}
-use lib.ListN.{length, take, length-map}
+use lib.ListN.{length, take, length-map, drop-of-length-le}
 use lib.Seq.{length-take-le}
 use Rattle.refusal.specs.declared.Rule.the-variants.{NotCovered}
-use Rattle.refusal.specs.declared.Verdict.{Verdict}
 use Rattle.refusal.specs.declared.Verdict.the-variants.{Accepted, Refused}
 use Rattle.money.specs.declared.Cents.{Cents}
-use Rattle.book.specs.declared.Segment.{Segment}
 use Rattle.book.specs.declared.Book.{Book}
 use Rattle.book.specs.Entries.{BidEntries, BookEntries, bidEntries, bookEntries}
 use Rattle.book.specs.Rules.{bookVerdict}
 use Rattle.book.proofs.Records.{noBid}
 use Rattle.book.proofs.Accepted.{book-accepted, all-accepted}
 use Rattle.supply.specs.Supply.{suppliesOf}
-use Rattle.divisions.specs.Division.{Allocation, Division}
-use Rattle.divisions.specs.Award.{Priced, awardOf}
-use Rattle.divisions.specs.Best.{IsAward, insideCount}
+use Rattle.supply.specs.Allocation.{total}
+use Rattle.divisions.specs.Division.{Allocation}
+use Rattle.divisions.specs.Award.{Priced}
+use Rattle.divisions.specs.Best.{insideCount}
 use Rattle.divisions.proofs.Award.{as-many, award-is, no-award-iff}
 use Rattle.choices.proofs.Accepted.{sound-supplies}
 use Rattle.choices.proofs.OneInside.{at-most-one-inside}
 use Rattle.award.specs.declared.Total.the-variants.{Amount, Nothing}
 use Rattle.award.specs.declared.Row.{Row}
-use Rattle.award.specs.declared.Award.{Award}
 use Rattle.award.specs.Award.{rowOf}
 use Rattle.clearing.specs.declared.Clearing.{Clearing}
-use Rattle.clearing.specs.Clearing.{awardOfBook, bookWithout, totalOf, totalWithout, awardRecord, clearOf}
+use Rattle.clearing.specs.Clearing.{awardOfBook, bookWithout, totalOf, totalWithout, clearOf}
+use Rattle.cleared.specs.OfBook.{DivisionOf, AwardOf}
 use Rattle.cleared.specs.Awarded.{rowAt, awarded}
 use Rattle.cleared.proofs.Rows.{record-awarded, record-row}
-use Rattle.cleared.proofs.Answers.{Cleared, cleared, covered, no-division, division}
-
--- every way to divide the demand among a book's bids
-abbrev pub DivisionOf : BookEntries → List ℕ → Type 0
-DivisionOf b rs = Division (b .demand) (suppliesOf (b .bids)) rs
-
-abbrev pub AwardOf : BookEntries → Priced → Type 0
-AwardOf b award = IsAward (b .demand) (suppliesOf (b .bids)) award
+use Rattle.cleared.proofs.Answers.{Cleared, cleared, no-division, division}
 
 module _ (b : BookEntries) where
   pub award-of-book : (award : Priced) → awardOfBook b ≡ some award → AwardOf b award
@@ -86,6 +78,15 @@ module _ (b : BookEntries) where
           let amount : totalOf (awardOfBook b) ≡ Amount (record { 0 = award .cost }) = ap totalOf f in
           let same : _≡_ {A = Cents} (record { 0 = award .cost }) (record { 0 = cents }) = cc in
           (award, award-of-book award f, ap (λ (x : Cents). x .0) same)
+
+-- no bids at all have no division
+nobody-sells : (b : BookEntries) (rs : List ℕ) → b .bids ≡ [] → 1 ≤ b .demand → DivisionOf b rs → ⊥
+unfolding total
+nobody-sells b rs nobody some-demand d = go rs (subst (λ (bs : List BidEntries). Allocation (suppliesOf bs) rs) nobody (d .allocation)) (d .meets)
+  where
+    go : (rs : List ℕ) → Allocation [] rs → total rs ≡ b .demand → ⊥
+    go [] a e = omega arith
+    go (r ∷ rs) a e = a
 
 module _ (book : Book) (held : length (book .bids) ≡ 8) where
   abbrev b : BookEntries
@@ -144,3 +145,14 @@ module _ (book : Book) (held : length (book .bids) ≡ 8) where
         let sound = sound-supplies (b .bids) (all-accepted b (c .accepted)) in
         subst (λ (d : Priced). insideCount (suppliesOf (b .bids)) (d .quantities) ≤ 1) (sym says)
         (at-most-one-inside (b .demand) (suppliesOf (b .bids)) sound (c .award) (c .is-award))
+
+    -- where no other bid is left, it is `none`
+    nobody-left : b .count ≡ 1 → bookWithout 0 b .bids ≡ []
+    unfolding bookWithout
+    nobody-left one = let l : length (b .bids) ≤ 1 = omega (arith, complete (c .accepted)) in drop-of-length-le (b .bids) l
+
+    pub none-without-sole : b .count ≡ 1 → rowAt (answer .award) 0 .without ≡ Nothing
+    unfolding bookWithout
+    none-without-sole one =
+        let some-demand = book-accepted b (c .accepted) .demand-low in
+        none-without-iff 0 (omega arith) .1 (λ rs d. nobody-sells (bookWithout 0 b) rs (nobody-left one) some-demand d)

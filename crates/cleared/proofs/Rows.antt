@@ -3,9 +3,8 @@ use Prim.Native.Nat.{ℕ, suc, _≤_, _<_}
 use native.Mathlib.Omega.{arith}
 use mathlib.Core.List.{List, [], _∷_, map}
 use mathlib.Core.Path.{_≡_, refl, sym, ap, _∙_}
-use lib.ListN.{length, getD, take}
+use lib.ListN.{length, getD}
 use lib.Seq.{getD-take}
-use Rattle.lists.specs.Padded.{padded}
 use Rattle.lists.proofs.Padded.{take-count}
 use Rattle.book.specs.Entries.{BidEntries, BookEntries}
 use Rattle.divisions.specs.Award.{Priced}

@@ -1,1 +1,2 @@
+pub mod OfBook
 pub mod Awarded

@@ -3,7 +3,7 @@ use Prim.Native.Nat.{ℕ, suc}
 use mathlib.Core.Bool.{true}
 use mathlib.Core.List.{List, [], _∷_, map, List·Memᴰ as In, Memᴰ·cast}
 use mathlib.Core.Logic.{_⊎_, inl, inr, _↔_, ⊎-elim}
-use mathlib.Core.Option.{Option, some, none, Option·none-ne-some}
+use mathlib.Core.Option.{some, none}
 use mathlib.Core.Path.{_≡_, refl, sym, ap, _∙_, subst}
 use lib.ListN.{length}
 use Rattle.lists.proofs.Members.{in-map, map-in}
@@ -11,7 +11,7 @@ use Rattle.book.specs.declared.Segment.{Segment}
 use Rattle.supply.specs.Allocation.{costOf}
 use Rattle.divisions.specs.Division.{Allocation, Division}
 use Rattle.divisions.specs.Listing.{divisions}
-use Rattle.divisions.specs.Award.{Priced, priced, better, bestOf, awardOf}
+use Rattle.divisions.specs.Award.{Priced, priced, better, awardOf}
 use Rattle.divisions.specs.Best.{Worse, IsAward}
 use Rattle.divisions.proofs.Signed.{less, less-test}
 use Rattle.divisions.proofs.Order.{better-cases, better-cost, better-tie, gives-less, gives-more}

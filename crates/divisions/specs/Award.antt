@@ -18,7 +18,7 @@ pub record Priced : Type 0 where
 abbrev pub priced : List (List Segment) → List ℕ → Priced
 priced supplies rs = record { cost = costOf supplies rs; quantities = rs }
 
--- xs gives more than ys to the first bidder at whom the two differ
+-- xs gives more than ys to the first bidder at whom the two differ; both have a quantity for each bidder, so the second line is never met
 unfoldable pub givesMore : List ℕ → List ℕ → Bool
 givesMore [] ys = false
 givesMore (x ∷ xs) [] = true

@@ -1,6 +1,5 @@
 -- The table, computed with the search. Assumes nothing.
 use mathlib.Core.Path.{_≡_, refl}
-use native.Mathlib.Decide.{decLe, decLt}
 use Rattle.lists.specs.All.{All}
 use Rattle.lists.specs.Every.{every}
 use Rattle.money.specs.Price.{priceOf}

@@ -11,7 +11,6 @@ use Rattle.book.specs.Rules.{bookVerdict}
 use Rattle.supply.specs.Supply.{suppliesOf}
 use Rattle.divisions.specs.Award.{Priced}
 use Rattle.choices.proofs.Search.{searched}
-use Rattle.award.specs.declared.Total.{Total}
 use Rattle.award.specs.declared.Row.{Row}
 use Rattle.award.specs.Award.{noRow, rowOf}
 use Rattle.clearing.specs.declared.Clearing.{Clearing}
