@@ -64,7 +64,7 @@ pub fn no_award() -> Award
     }
 }
 
-// The price of a quantity that the bid offers.
+// The price of a quantity that the bid offers; 0 where it does not offer it, which no award has.
 fn price_of(bid: Bid, quantity: Blanks) -> Cents
     requires { ⌜ bid .count ≤ 6 ⌝ }
     requires { ⌜ every segmentInRange (bidEntries bid .segments) ≡ true ⌝ }

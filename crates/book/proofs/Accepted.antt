@@ -4,16 +4,14 @@ use native.Mathlib.Nat.{le-of-suc-le-suc, not-suc-le-zero}
 use native.Mathlib.Omega.{arith}
 use mathlib.Core.Bool.{true}
 use mathlib.Core.List.{List, [], _∷_, map}
-use mathlib.Core.Path.{_≡_, ap, _∙_, subst}
+use mathlib.Core.Path.{_≡_, subst}
 use borrow.Author.Tests.{leb-true, ltb-true}
 use lib.Dec.{leb, ltb}
-use lib.ListN.{length, getD, take, length-map, List·getD-map}
-use lib.Seq.{getD-take, length-take-le}
+use lib.ListN.{length, getD, take}
 use Rattle.lists.specs.All.{All}
 use Rattle.lists.specs.Every.{every}
-use Rattle.lists.proofs.All.{all-indexed}
+use Rattle.lists.proofs.All.{all-indexed, all-at}
 use Rattle.lists.proofs.Tests.{both-left, both-right}
-use Rattle.lists.proofs.Everywhere.{every-within}
 use Rattle.refusal.specs.Checks.{unless}
 use Rattle.refusal.proofs.Firsts.{first-passed, rest-passed, test-holds}
 use Rattle.refusal.specs.declared.Rule.the-variants.{BidCount, SegmentCount, Range, BidderOrder, SegmentOrder, NegativePrice}
@@ -22,8 +20,9 @@ use Rattle.book.specs.declared.Bid.{Bid}
 use Rattle.book.specs.declared.Book.{Book}
 use Rattle.book.specs.Entries.{BidEntries, BookEntries, bidEntries, bookEntries}
 use Rattle.book.specs.Rules.{within, segmentInRange, bidInRange, segmentsRise, startNotNegative, bidVerdict, bidsVerdict, bookVerdict}
-use Rattle.book.proofs.Records.{noBid, noSegment}
-use Rattle.book.proofs.InRange.{InRange, in-range, within-low, within-high}
+use Rattle.book.proofs.Records.{noBid}
+use Rattle.book.proofs.InRange.{within-low, within-high}
+use Rattle.book.proofs.Bids.{length-entries, entry-at}
 
 pub record AcceptedBid (b : BidEntries) : Type 0 where
   pub count-low : 1 ≤ b .count
@@ -124,21 +123,17 @@ bidders-rise line before (b ∷ []) d e i h = absurd (not-suc-le-zero (le-of-suc
 bidders-rise line before (b ∷ c ∷ bs) d e zero h = first-line (line + 1) (b .bidder) c bs (later-lines line before b (c ∷ bs) e) .above
 bidders-rise line before (b ∷ c ∷ bs) d e (suc i) h = bidders-rise (line + 1) (b .bidder) (c ∷ bs) d (later-lines line before b (c ∷ bs) e) i (le-of-suc-le-suc h)
 
+-- each bid that a record holds, where all are accepted
+pub accepted-at : (bs : List Bid) (n : ℕ) → n ≤ length bs → All AcceptedBid (map bidEntries (take n bs)) → (i : ℕ) → i < n
+    → AcceptedBid (bidEntries (getD bs i noBid))
+accepted-at bs n held all i h =
+    let within : i < length (map bidEntries (take n bs)) = rw (length-entries bs n held) h in
+    subst AcceptedBid (entry-at bs n held i h) (all-at AcceptedBid (bidEntries noBid) (map bidEntries (take n bs)) all i within)
+
 -- each bid of an accepted record
 module _ (b : Book) (accepted : bookVerdict (bookEntries b) ≡ Accepted) (held : length (b .bids) ≡ 8) where
   pub few-bids : b .count ≤ 8
   few-bids = book-accepted (bookEntries b) accepted .count-high
 
   pub bid-at : (i : ℕ) → i < b .count → AcceptedBid (bidEntries (getD (b .bids) i noBid))
-  bid-at i h =
-      let bs = take (b .count) (b .bids) in
-      let few : b .count ≤ length (b .bids) = omega (arith, few-bids) in
-      let l : i < length (map bidEntries bs) = rw (length-map bs bidEntries, length-take-le (b .count) (b .bids) few) h in
-      let at : getD (map bidEntries bs) i (bidEntries noBid) ≡ bidEntries (getD (b .bids) i noBid) = List·getD-map bidEntries bs i noBid ∙ ap bidEntries (getD-take (b .count) (b .bids) i noBid h) in
-      subst AcceptedBid at (bids-accepted 2 0 (map bidEntries bs) (bidEntries noBid) (book-accepted (bookEntries b) accepted .bids) i l)
-
--- each segment of such a bid
-pub segment-at : (b : Bid) → AcceptedBid (bidEntries b) → length (b .segments) ≡ 6 → (j : ℕ) → j < b .count
-    → InRange (getD (b .segments) j noSegment)
-segment-at b a held j h =
-    in-range (getD (b .segments) j noSegment) (every-within segmentInRange (b .segments) j (b .count) noSegment h (omega (arith, a .count-high)) (a .ranges))
+  bid-at i h = accepted-at (b .bids) (b .count) (omega (arith, few-bids)) (all-accepted (bookEntries b) accepted) i h

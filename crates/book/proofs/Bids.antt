@@ -2,8 +2,8 @@
 use Prim.Native.Nat.{ℕ, _+_, _≤_, _<_}
 use mathlib.Core.List.{List, [], _∷_, map}
 use mathlib.Core.Path.{_≡_, ap, _∙_}
-use lib.ListN.{length, getD}
-use lib.Seq.{slice}
+use lib.ListN.{length, getD, take, length-map, List·getD-map}
+use lib.Seq.{slice, getD-take, length-take-le}
 use Rattle.lists.proofs.Slices.{slice-next, slice-done}
 use Rattle.refusal.proofs.Firsts.{only}
 use Rattle.refusal.specs.declared.Rule.{Rule}
@@ -23,6 +23,14 @@ entries-next bs i n h k = ap (map bidEntries) (slice-next bs i n noBid h k)
 
 pub entries-done : (bs : List Bid) (i n : ℕ) → i ≤ n → n ≤ i → entriesFrom i n bs ≡ []
 entries-done bs i n h k = ap (map bidEntries) (slice-done bs i n h k)
+
+-- the bids that a record holds, as their entries
+module _ (bs : List Bid) (n : ℕ) (held : n ≤ length bs) where
+  pub length-entries : length (map bidEntries (take n bs)) ≡ n
+  length-entries = length-map (take n bs) bidEntries ∙ length-take-le n bs held
+
+  pub entry-at : (i : ℕ) → i < n → getD (map bidEntries (take n bs)) i (bidEntries noBid) ≡ bidEntries (getD bs i noBid)
+  entry-at i h = List·getD-map bidEntries (take n bs) i noBid ∙ ap bidEntries (getD-take n bs i noBid h)
 
 module _ (line before : ℕ) (bs : List Bid) (i n : ℕ) (more : i < n) (held : n ≤ length bs) where
   abbrev here : Bid

@@ -58,12 +58,12 @@ mostBlanks = 1000000
 abbrev pub mostCents : ℕ
 mostCents = 2000000000000
 
-module _ (s : Segment) (r : ℕ) (range : InRange s) (few : r ≤ mostBlanks) where
+module _ (s : Segment) (r : ℕ) (unit-high : s .unit .0 ≤ 1000000) (fixed-size : natAbs (s .fixed .0) ≤ 1000000000000) (few : r ≤ mostBlanks) where
   product-small : s .unit .0 * r ≤ 1000000000000
-  product-small = mul-le-mul (range .unit-high) few
+  product-small = mul-le-mul unit-high few
 
   pub price-small : natAbs (priceOn s r) ≤ mostCents
-  price-small = omega (arith, price-size (s .unit .0) r (s .fixed .0), product-small, range .fixed-size)
+  price-small = omega (arith, price-size (s .unit .0) r (s .fixed .0), product-small, fixed-size)
 
   -- what the price rule asks
   pub price-fits : (s .unit .0 * r < 2 ^ 63) × SFits w64 (priceOn s r)

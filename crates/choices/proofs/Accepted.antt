@@ -13,11 +13,11 @@ use Rattle.lists.proofs.All.{all-at, all-from, all-map}
 use Rattle.money.specs.Price.{priceOf}
 use Rattle.book.specs.declared.Segment.{Segment}
 use Rattle.book.specs.Entries.{BidEntries}
-use Rattle.book.specs.Rules.{segmentInRange, segmentsRise, startNotNegative, priceOn}
+use Rattle.book.specs.Rules.{segmentInRange, segmentsRise, startNotNegative}
 use Rattle.book.proofs.InRange.{InRange, in-range}
 use Rattle.book.proofs.Accepted.{AcceptedBid}
-use Rattle.supply.specs.Supply.{segment0, supplyOf, suppliesOf, on, priceAt, inside, standsInside}
-use Rattle.supply.proofs.OneSegment.{on-low, on-high, off-above, step}
+use Rattle.supply.specs.Supply.{segment0, supplyOf, suppliesOf, on, inside, standsInside}
+use Rattle.supply.proofs.OneSegment.{on-high, step, beyond, price-there}
 use Rattle.choices.proofs.Sound.{SoundSegment, SoundSupply}
 
 -- Each segment.
@@ -52,17 +52,6 @@ out-below : (s : Segment) (r : ℕ) → r ≤ s .start .0 → inside s r ≡ fal
 unfolding inside
 out-below s r h = rw (le-ltb (s .start .0) r h)
 
--- a quantity on a later segment is above what stands before
-beyond : (before : ℕ) (ss : List Segment) (s : Segment) (r : ℕ) → segmentsRise before ss ≡ true → In s ss → on s r ≡ true → before < r
-beyond before [] s r e m o = absurd (List·Memᴰ·not-nil m)
-beyond before (t ∷ ts) s r e (here p) o =
-    let i = step before t ts e in
-    let o′ : on t r ≡ true = rw p at o in
-    omega (arith, i .above, on-low t r o′)
-beyond before (t ∷ ts) s r e (there m) o =
-    let i = step before t ts e in
-    omega (arith, i .above, i .order, beyond (t .end .0) ts s r (i .rest) m o)
-
 -- a quantity that is not above what stands before is inside no later segment
 none-later : (before : ℕ) (ss : List Segment) (r : ℕ) → segmentsRise before ss ≡ true → r ≤ before → standsInside ss r ≡ false
 unfolding standsInside
@@ -71,14 +60,6 @@ none-later before (t ∷ ts) r e h =
     let i = step before t ts e in
     let l : r ≤ t .start .0 = omega (arith, i .above) in
     rw (out-below t r l) (none-later (t .end .0) ts r (i .rest) (omega (arith, i .order)))
-
-price-there : (t : Segment) (ts : List Segment) (s : Segment) (r : ℕ) → segmentsRise (t .end .0) ts ≡ true → In s (t ∷ ts) → on s r ≡ true
-    → priceAt (t ∷ ts) r ≡ priceOn s r
-unfolding priceAt
-price-there t ts s r e (here p) o = let o′ : on t r ≡ true = rw p at o in rw (o′, p)
-price-there t [] s r e (there m) o = absurd (List·Memᴰ·not-nil m)
-price-there t (u ∷ us) s r e (there m) o =
-    rw (off-above t r (beyond (t .end .0) (u ∷ us) s r e m o)) (price-there u us s r (step (t .end .0) u us e .rest) m o)
 
 inside-there : (t : Segment) (ts : List Segment) (s : Segment) (r : ℕ) → segmentsRise (t .end .0) ts ≡ true → In s (t ∷ ts) → on s r ≡ true
     → standsInside (t ∷ ts) r ≡ inside s r

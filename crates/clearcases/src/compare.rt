@@ -1,12 +1,12 @@
-// Clears the books of the rule both ways, and counts how often the two agree.
+// Clears small books both ways, and counts how often the two agree.
 use crate::agree;
-use crate::rule;
+use crate::small_books;
 use crate::splits;
 use crate::splits::Cheapest;
 use book::Book;
 use refusal::Verdict;
 
-// Books that are refused by a rule before 9 are not compared; the rule should make none.
+// Books that are refused by a rule before 9 are not compared; `small_books` should make none.
 struct Counts {
     refused: u64,
     covered: u64,
@@ -44,9 +44,9 @@ fn count() -> Counts {
     let mut x: u64 = 1;
     let mut i: u64 = 0;
     while i < 400 {
-        let book = rule::book(x);
+        let book = small_books::book(x);
         c = counted(c, book);
-        x = rule::next_book(x);
+        x = small_books::next_book(x);
         i += 1;
     }
     c

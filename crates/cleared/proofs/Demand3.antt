@@ -7,8 +7,7 @@ use mathlib.Core.Logic.{_↔_}
 use mathlib.Core.Option.{Option, some, none}
 use mathlib.Core.Path.{_≡_, refl, sym, ap, _∙_, subst}
 use lib.IntN.{ℤ}
-use lib.ListN.{length, take, length-map, drop-of-length-le}
-use lib.Seq.{length-take-le}
+use lib.ListN.{length, getD, length-map, drop-of-length-le}
 use Rattle.refusal.specs.declared.Rule.the-variants.{NotCovered}
 use Rattle.refusal.specs.declared.Verdict.the-variants.{Accepted, Refused}
 use Rattle.money.specs.declared.Cents.{Cents}
@@ -16,6 +15,7 @@ use Rattle.book.specs.declared.Book.{Book}
 use Rattle.book.specs.Entries.{BidEntries, BookEntries, bidEntries, bookEntries}
 use Rattle.book.specs.Rules.{bookVerdict}
 use Rattle.book.proofs.Records.{noBid}
+use Rattle.book.proofs.Bids.{length-entries}
 use Rattle.book.proofs.Accepted.{book-accepted, all-accepted}
 use Rattle.supply.specs.Supply.{suppliesOf}
 use Rattle.supply.specs.Allocation.{total}
@@ -27,16 +27,16 @@ use Rattle.choices.proofs.Accepted.{sound-supplies}
 use Rattle.choices.proofs.OneInside.{at-most-one-inside}
 use Rattle.award.specs.declared.Total.the-variants.{Amount, Nothing}
 use Rattle.award.specs.declared.Row.{Row}
-use Rattle.award.specs.Award.{rowOf}
+use Rattle.award.specs.Award.{noRow, rowOf}
 use Rattle.clearing.specs.declared.Clearing.{Clearing}
 use Rattle.clearing.specs.Clearing.{awardOfBook, bookWithout, totalOf, totalWithout, clearOf}
-use Rattle.cleared.specs.OfBook.{DivisionOf, AwardOf}
+use Rattle.cleared.specs.OfBook.{DivisionOf, IsAwardOf}
 use Rattle.cleared.specs.Awarded.{rowAt, awarded}
-use Rattle.cleared.proofs.Rows.{record-awarded, record-row}
+use Rattle.cleared.proofs.Rows.{record-awarded, record-row, record-past}
 use Rattle.cleared.proofs.Answers.{Cleared, cleared, no-division, division}
 
 module _ (b : BookEntries) where
-  pub award-of-book : (award : Priced) → awardOfBook b ≡ some award → AwardOf b award
+  pub award-of-book : (award : Priced) → awardOfBook b ≡ some award → IsAwardOf b award
   unfolding awardOfBook
   award-of-book award e = award-is (b .demand) (suppliesOf (b .bids)) award e
 
@@ -55,6 +55,17 @@ module _ (b : BookEntries) where
           let z : _≡_ {A = ℕ} 0 1 = cc in
           absurd (omega arith)
 
+  -- and an accepted book is covered exactly when there is one
+  pub covered-iff : bookVerdict b ≡ Accepted → (clearOf b .verdict ≡ Accepted) ↔ ((rs : List ℕ) × DivisionOf b rs)
+  covered-iff e = (
+    λ h. let c = cleared b h in (c .award .quantities, award-of-book (c .award) (c .is-award) .division),
+    λ d. some-of (awardOfBook b) refl (d .0) (d .1),
+  )
+    where
+      some-of : (o : Option Priced) → awardOfBook b ≡ o → (rs : List ℕ) → DivisionOf b rs → clearOf b .verdict ≡ Accepted
+      some-of none f rs d = absurd (no-award-of-book .0 f rs d)
+      some-of (some award) f rs d = ap (λ (c : Clearing). c .verdict) (division b award e f)
+
   -- a total is `none` exactly when there is no division, and else the cost of the award
   total-none-iff : (totalOf (awardOfBook b) ≡ Nothing) ↔ ((rs : List ℕ) → DivisionOf b rs → ⊥)
   total-none-iff = (λ h. no-award-of-book .0 (none-of (awardOfBook b) refl h), λ f. ap totalOf (no-award-of-book .1 f))
@@ -66,10 +77,10 @@ module _ (b : BookEntries) where
           let z : _≡_ {A = ℕ} 0 1 = cc in
           absurd (omega arith)
 
-  total-amount : (cents : ℤ) → totalOf (awardOfBook b) ≡ Amount (record { 0 = cents }) → (award : Priced) × AwardOf b award × (award .cost ≡ cents)
+  total-amount : (cents : ℤ) → totalOf (awardOfBook b) ≡ Amount (record { 0 = cents }) → (award : Priced) × IsAwardOf b award × (award .cost ≡ cents)
   total-amount cents h = go (awardOfBook b) refl
     where
-      go : (o : Option Priced) → awardOfBook b ≡ o → (award : Priced) × AwardOf b award × (award .cost ≡ cents)
+      go : (o : Option Priced) → awardOfBook b ≡ o → (award : Priced) × IsAwardOf b award × (award .cost ≡ cents)
       go none f =
           let nothing : totalOf (awardOfBook b) ≡ Nothing = ap totalOf f in
           let z : _≡_ {A = ℕ} 0 1 = cc in
@@ -101,13 +112,13 @@ module _ (book : Book) (held : length (book .bids) ≡ 8) where
   complete : bookVerdict b ≡ Accepted → length (b .bids) ≡ b .count
   complete e =
       let within : book .count ≤ length (book .bids) = omega (arith, few e) in
-      length-map (take (book .count) (book .bids)) bidEntries ∙ length-take-le (book .count) (book .bids) within
+      length-entries (book .bids) (book .count) within
 
   module _ (accepted : answer .verdict ≡ Accepted) where
     c : Cleared b
     c = cleared b accepted
 
-    is-award : AwardOf b (c .award)
+    is-award : IsAwardOf b (c .award)
     is-award = award-of-book b (c .award) (c .is-award)
 
     many : length (c .award .quantities) ≡ length (b .bids)
@@ -118,15 +129,26 @@ module _ (book : Book) (held : length (book .bids) ≡ 8) where
 
     -- the award is one of the divisions, every other division costs more, or costs the same and gives less to the first bidder at
     -- whom the two differ; the total is its cost
-    pub no-other-cheaper : AwardOf b (awarded (answer .award))
-    no-other-cheaper = subst (AwardOf b) (sym says) is-award
+    pub no-other-cheaper : IsAwardOf b (awarded (answer .award))
+    no-other-cheaper = subst (IsAwardOf b) (sym says) is-award
+
+    -- the row of each bid is that of what it sells; the rows past the bids are zeros and `none`
+    pub row-is : (i : ℕ) → i < b .count
+        → rowAt (answer .award) i ≡ rowOf (getD (b .bids) i (bidEntries noBid)) (getD (awarded (answer .award) .quantities) i 0) (totalWithout b i)
+    row-is i h =
+        ap (λ (x : Clearing). rowAt (x .award) i) (c .answer)
+        ∙ record-row b (few (c .accepted)) (complete (c .accepted)) (c .award) many (bidEntries noBid) i h
+        ∙ ap (λ (d : Priced). rowOf (getD (b .bids) i (bidEntries noBid)) (getD (d .quantities) i 0) (totalWithout b i)) (sym says)
+
+    pub past-rows : (i : ℕ) → b .count ≤ i → rowAt (answer .award) i ≡ noRow
+    past-rows i h =
+        ap (λ (x : Clearing). rowAt (x .award) i) (c .answer)
+        ∙ record-past b (few (c .accepted)) (complete (c .accepted)) (c .award) many i h
 
     -- the total shown without a bidder is that of the award of the other bids
     pub without-is : (i : ℕ) → i < b .count → rowAt (answer .award) i .without ≡ totalOf (awardOfBook (bookWithout i b))
     unfolding totalWithout rowOf
-    without-is i h =
-        ap (λ (x : Clearing). rowAt (x .award) i .without) (c .answer)
-        ∙ ap (λ (row : Row). row .without) (record-row b (few (c .accepted)) (complete (c .accepted)) (c .award) many (bidEntries noBid) i h)
+    without-is i h = ap (λ (row : Row). row .without) (row-is i h)
 
     -- and `none` exactly when they have no division
     pub none-without-iff : (i : ℕ) → i < b .count → (rowAt (answer .award) i .without ≡ Nothing) ↔ ((rs : List ℕ) → DivisionOf (bookWithout i b) rs → ⊥)
@@ -135,7 +157,7 @@ module _ (book : Book) (held : length (book .bids) ≡ 8) where
         (λ e. to (sym (without-is i h) ∙ e), λ f. without-is i h ∙ from f)
 
     pub amount-without : (i : ℕ) → i < b .count → (cents : ℤ) → rowAt (answer .award) i .without ≡ Amount (record { 0 = cents })
-        → (award : Priced) × AwardOf (bookWithout i b) award × (award .cost ≡ cents)
+        → (award : Priced) × IsAwardOf (bookWithout i b) award × (award .cost ≡ cents)
     amount-without i h cents e = total-amount (bookWithout i b) cents (sym (without-is i h) ∙ e)
 
     -- at most one bidder stands strictly inside its segment

@@ -5,7 +5,7 @@ use mathlib.Core.List.{List, [], _∷_, map}
 use mathlib.Core.Path.{_≡_, refl, sym, ap, _∙_}
 use lib.ListN.{length, getD}
 use lib.Seq.{getD-take}
-use Rattle.lists.proofs.Padded.{take-count}
+use Rattle.lists.proofs.Padded.{take-count, padded-past}
 use Rattle.book.specs.Entries.{BidEntries, BookEntries}
 use Rattle.divisions.specs.Award.{Priced}
 use Rattle.award.specs.declared.Row.{Row}
@@ -49,3 +49,10 @@ module _ (b : BookEntries) where
         ∙ ap (λ (l : List Row). getD l i noRow) rows-listed
         ∙ row-at b 0 (b .bids) (award .quantities) i none bid (omega arith)
         ∙ ap (λ (n : ℕ). rowOf (getD (b .bids) i none) (getD (award .quantities) i 0) (totalWithout b n)) (omega arith)
+
+    -- past the bids, zeros and `none`
+    pub record-past : (i : ℕ) → b .count ≤ i → rowAt (awardRecord b award) i ≡ noRow
+    unfolding awardRecord
+    record-past i h =
+        let size = length-rows b 0 (b .bids) (award .quantities) (sym as-many) in
+        padded-past 8 noRow listed i (omega arith) (omega arith)

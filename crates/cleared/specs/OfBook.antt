@@ -12,5 +12,5 @@ abbrev pub DivisionOf : BookEntries → List ℕ → Type 0
 DivisionOf b rs = Division (b .demand) (suppliesOf (b .bids)) rs
 
 -- the best of them: every other costs more, or costs the same and gives less to the first bidder at whom the two differ
-abbrev pub AwardOf : BookEntries → Priced → Type 0
-AwardOf b award = IsAward (b .demand) (suppliesOf (b .bids)) award
+abbrev pub IsAwardOf : BookEntries → Priced → Type 0
+IsAwardOf b award = IsAward (b .demand) (suppliesOf (b .bids)) award

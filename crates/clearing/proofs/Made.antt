@@ -13,6 +13,7 @@ use Rattle.money.specs.declared.Blanks.{Blanks}
 use Rattle.book.specs.declared.Book.{Book}
 use Rattle.book.specs.Entries.{BidEntries, BookEntries, bidEntries, bookEntries}
 use Rattle.book.proofs.Records.{noBid}
+use Rattle.book.proofs.Bids.{length-entries, entry-at}
 use Rattle.filling.specs.Records.{blanksIn}
 use Rattle.award.specs.declared.Row.{Row}
 use Rattle.award.specs.Award.{noRow, rowOf}
@@ -57,7 +58,7 @@ module _ (book : Book) (quantities : List Blanks) where
     rs = take (book .count) (blanksIn quantities)
 
     length-bids : length bids ≡ book .count
-    length-bids = length-map (take (book .count) (book .bids)) bidEntries ∙ length-take-le (book .count) (book .bids) (omega arith)
+    length-bids = length-entries (book .bids) (book .count) (omega arith)
 
     length-quantities : length rs ≡ book .count
     length-quantities = length-take-le (book .count) (blanksIn quantities) (omega (arith, length-map quantities (λ (b : Blanks). b .0)))
@@ -77,7 +78,7 @@ module _ (book : Book) (quantities : List Blanks) where
 
     module _ (i : ℕ) (more : i < book .count) where
       the-bid : getD bids i (bidEntries noBid) ≡ bid i
-      the-bid = List·getD-map bidEntries (take (book .count) (book .bids)) i noBid ∙ ap bidEntries (getD-take (book .count) (book .bids) i noBid more)
+      the-bid = entry-at (book .bids) (book .count) (omega arith) i more
 
       the-quantity : getD rs i 0 ≡ quantity i
       the-quantity =

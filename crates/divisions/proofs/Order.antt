@@ -1,7 +1,7 @@
 -- The order of divisions: `better` is strict and total. Assumes nothing.
 use Prim.Native.Nat.{ℕ, zero, suc, _<_}
 use native.Mathlib.Omega.{arith}
-use mathlib.Core.Bool.{Bool, true, false, _&&_, _||_, false≢true}
+use mathlib.Core.Bool.{true, false, _&&_, false≢true}
 use mathlib.Core.List.{List, [], _∷_}
 use mathlib.Core.Logic.{_⊎_, inl, inr, ⊎-elim}
 use mathlib.Core.Path.{_≡_, refl, sym, ap₂, _∙_}
@@ -9,24 +9,10 @@ use borrow.Author.Tests.{ltb-true, eqb-true, lt-ltb, eq-eqb}
 use lib.Dec.{eqb, ltb}
 use lib.ListN.{length, take, getD}
 use lib.Signed.{ltZ, leZ}
-use Rattle.lists.proofs.Tests.{both-left, both-right}
+use Rattle.lists.proofs.Tests.{both-left, both-right, both-hold, one-holds, left-holds, right-holds}
 use Rattle.divisions.specs.Award.{Priced, givesMore, better}
 use Rattle.divisions.specs.Best.{GivesLess}
 use Rattle.divisions.proofs.Signed.{order, less-trans, less-irrefl, less-or, at-most-same, at-most-cases}
-
-either : (a b : Bool) → a || b ≡ true → (a ≡ true) ⊎ (b ≡ true)
-either true b e = inl refl
-either false b e = inr e
-
-left : (a b : Bool) → a ≡ true → a || b ≡ true
-left a b e = rw e
-
-right : (a b : Bool) → b ≡ true → a || b ≡ true
-right true b e = refl
-right false b e = e
-
-both : (a b : Bool) → a ≡ true → b ≡ true → a && b ≡ true
-both a b e f = rw (e, f)
 
 -- ---- more to the first bidder at whom two differ
 
@@ -35,11 +21,11 @@ More xs ys = givesMore xs ys ≡ true
 
 pub more-here : (x y : ℕ) (xs ys : List ℕ) → y < x → More (x ∷ xs) (y ∷ ys)
 unfolding givesMore
-more-here x y xs ys h = left (ltb y x) _ (lt-ltb y x h)
+more-here x y xs ys h = left-holds (ltb y x) _ (lt-ltb y x h)
 
 pub more-later : (x y : ℕ) (xs ys : List ℕ) → x ≡ y → More xs ys → More (x ∷ xs) (y ∷ ys)
 unfolding givesMore
-more-later x y xs ys e h = right (ltb y x) _ (both (eqb x y) (givesMore xs ys) (eq-eqb x y e) h)
+more-later x y xs ys e h = right-holds (ltb y x) _ (both-hold (eqb x y) (givesMore xs ys) (eq-eqb x y e) h)
 
 more-cases : (x y : ℕ) (xs ys : List ℕ) → More (x ∷ xs) (y ∷ ys) → (y < x) ⊎ ((x ≡ y) × More xs ys)
 unfolding givesMore
@@ -47,7 +33,7 @@ more-cases x y xs ys h =
     ⊎-elim
     (λ k. inl (ltb-true y x k))
     (λ k. inr (eqb-true x y (both-left (eqb x y) (givesMore xs ys) k), both-right (eqb x y) (givesMore xs ys) k))
-    (either (ltb y x) (eqb x y && givesMore xs ys) h)
+    (one-holds (ltb y x) (eqb x y && givesMore xs ys) h)
 
 more-trans : (xs ys zs : List ℕ) → More xs ys → More ys zs → More xs zs
 unfolding givesMore
@@ -114,7 +100,7 @@ gives-more xs rs e l = more-at xs rs (l .bidder) e (l .same-before) (l .less)
 module _ (a b : Priced) where
   pub better-cost : ltZ (a .cost) (b .cost) ≡ true → better a b ≡ true
   unfolding better
-  better-cost h = left _ _ h
+  better-cost h = left-holds _ _ h
 
   pub better-tie : a .cost ≡ b .cost → givesMore (a .quantities) (b .quantities) ≡ true → better a b ≡ true
   unfolding better
@@ -122,7 +108,7 @@ module _ (a b : Priced) where
       let less = ltZ (a .cost) (b .cost) in
       let most = leZ (a .cost) (b .cost) in
       let more = givesMore (a .quantities) (b .quantities) in
-      right less (most && more) (both most more (at-most-same (a .cost) (b .cost) e) h)
+      right-holds less (most && more) (both-hold most more (at-most-same (a .cost) (b .cost) e) h)
 
   pub better-cases : better a b ≡ true → (ltZ (a .cost) (b .cost) ≡ true) ⊎ ((a .cost ≡ b .cost) × (givesMore (a .quantities) (b .quantities) ≡ true))
   unfolding better
@@ -133,7 +119,7 @@ module _ (a b : Priced) where
       ⊎-elim
       (λ k. inl k)
       (λ k. ⊎-elim (λ l. inl l) (λ l. inr (l, both-right most more k)) (at-most-cases (a .cost) (b .cost) (both-left most more k)))
-      (either less (most && more) h)
+      (one-holds less (most && more) h)
 
 pub better-trans : (a b c : Priced) → better a b ≡ true → better b c ≡ true → better a c ≡ true
 better-trans a b c h k = go (better-cases a b h) (better-cases b c k)

@@ -1,4 +1,5 @@
--- Demand 3's words for the award, of which divisions/proofs/Award.antt proves that they fix it.
+-- Demand 3's words for the award. That `IsAward` fixes it is proved in proofs/Award.antt; that at most one bidder of it stands strictly
+-- inside, in choices/proofs/OneInside.antt.
 use Prim.Native.Nat.{ℕ, _+_, _<_}
 use mathlib.Core.Bool.{cond}
 use mathlib.Core.List.{List, [], _∷_}
@@ -12,7 +13,7 @@ use Rattle.supply.specs.Allocation.{costOf}
 use Rattle.divisions.specs.Award.{Priced}
 use Rattle.divisions.specs.Division.{Division}
 
--- rs gives less than xs to the first bidder at whom the two differ
+-- rs gives less than xs to the first bidder at whom the two differ; `bidder` is its index in book order, from 0
 pub record GivesLess (rs xs : List ℕ) : Type 0 where
   pub bidder : ℕ
   pub same-before : take bidder rs ≡ take bidder xs

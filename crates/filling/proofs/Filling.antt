@@ -2,10 +2,10 @@
 use Prim.Native.Nat.{ℕ, suc, _+_, _-_, _*_, _≤_, _<_}
 use native.Mathlib.Numerals.{add-one}
 use native.Mathlib.Omega.{arith}
-use mathlib.Core.Bool.{true, false}
+use mathlib.Core.Bool.{false}
 use mathlib.Core.List.{List, [], _∷_, reverse, reverseAux}
 use mathlib.Core.Path.{_≡_, sym, ap, _∙_}
-use borrow.Author.Tests.{le-leb, lt-leb, leb-true}
+use borrow.Author.Tests.{le-leb, lt-leb}
 use lib.Dec.{leb}
 use lib.IntN.{ℤ, pos, natAbs, _+ℤ_, +ℤ-assoc, +ℤ-idl, +ℤ-idr}
 use lib.ListN.{length, getD, set, take, length-set, length-map}
@@ -14,7 +14,6 @@ use mir.Syntax.{w64}
 use mir.Val.{SFits}
 use Rattle.lists.proofs.Latest.{latest, latest-none, latest-next}
 use Rattle.lists.proofs.Slices.{map-set, slice-set}
-use Rattle.lists.proofs.Tests.{both-left}
 use Rattle.money.specs.declared.Blanks.{Blanks}
 use Rattle.money.proofs.Bounds.{natAbs-plus, small-fits}
 use Rattle.book.specs.declared.Segment.{Segment}
@@ -36,10 +35,6 @@ module _ (demand : ℕ) (c : List Segment) (low : ℕ) (starts-are : low ≡ sta
   pub not-too-many : (high : ℕ) → high ≡ ends c → low ≤ demand → leb demand high ≡ fits demand c
   unfolding fits
   not-too-many high e h = rw (le-leb (starts c) demand (omega arith), e)
-
-pub starts-fit : (demand : ℕ) (c : List Segment) → fits demand c ≡ true → starts c ≤ demand
-unfolding fits
-starts-fit demand c e = leb-true (starts c) demand (both-left (leb (starts c) demand) (leb demand (ends c)) e)
 
 -- a share is no more than what is left, and with the start no more than the end
 pub share-left : (left : ℕ) (s : Segment) (c : List Segment) → share left s c ≤ left

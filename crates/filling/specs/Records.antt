@@ -1,4 +1,4 @@
--- For the contracts of this crate and of `search`: what the records of a choice and of a division hold.
+-- For the contracts of this crate, of `search` and of `clearing`: what the records of a choice and of a division hold.
 use Prim.Native.Nat.{ℕ, _≤_}
 use mathlib.Core.Bool.{cond}
 use mathlib.Core.List.{List, map}
@@ -18,10 +18,12 @@ use Rattle.filling.specs.declared.Best.{Best}
 abbrev pub chosen : Choice → List Segment
 chosen c = latest noSegment (c .segments) (c .count)
 
+-- what the search keeps of a choice: at most eight bidders, and segments as those of accepted bids are
 pub record Sound (c : Choice) : Type 0 where
   pub few : c .count ≤ 8
   pub each : All SoundSegment (chosen c)
 
+-- quantities as numbers
 abbrev pub blanksIn : List Blanks → List ℕ
 blanksIn quantities = map (λ (b : Blanks). b .0) quantities
 

@@ -18,14 +18,14 @@ pub struct Choice {
     pub segments: [Segment; 8],
 }
 
-// The best division so far, if one was found: its cost, and a quantity for each bidder in book
-// order.
+// A division, if one was found: its cost, and a quantity for each bidder in book order.
 pub struct Best {
     pub found: bool,
     pub total: Cents,
     pub quantities: [Blanks; 8],
 }
 
+// The starts of the chosen segments, added up afresh where a choice is tested.
 fn starts(c: Choice) -> u64
     requires { ⌜ Sound c ⌝ }
     ensures { λ r. ⌜ r ≡ starts (chosen c) ⌝ }
@@ -40,6 +40,7 @@ fn starts(c: Choice) -> u64
     sum
 }
 
+// Their ends, likewise.
 fn ends(c: Choice) -> u64
     requires { ⌜ Sound c ⌝ }
     ensures { λ r. ⌜ r ≡ ends (chosen c) ⌝ }

@@ -5,7 +5,7 @@ use native.Mathlib.Numerals.{add-one}
 use native.Mathlib.Decide.{decLt}
 use native.Mathlib.Omega.{arith}
 use mathlib.Core.List.{List, [], _∷_}
-use mathlib.Core.Path.{_≡_, refl, ap, _∙_, subst}
+use mathlib.Core.Path.{_≡_, refl, _∙_, subst}
 use lib.ListN.{length, getD, set}
 use lib.Seq.{getD-set-same, getD-set-other}
 use Rattle.lists.specs.All.{All}
@@ -32,11 +32,6 @@ module _ {A : Type 0} (d : A) where
   -- one more
   pub latest-set : (xs : List A) (n : ℕ) (x : A) → n < length xs → latest (set xs n x) (n + 1) ≡ x ∷ latest xs n
   latest-set xs n x h = rw add-one (latest-next (set xs n x) n ∙ rw (getD-set-same xs n x d h, latest-kept xs n x n (le-refl n)))
-
-  pub length-latest : (xs : List A) (n : ℕ) → length (latest xs n) ≡ n
-  unfolding latest
-  length-latest xs zero = refl
-  length-latest xs (suc n) = ap suc (length-latest xs n)
 
   -- what holds of every one of them holds at each index
   pub latest-at : (P : A → Type 0) (xs : List A) (n i : ℕ) → All P (latest xs n) → i < n → P (getD xs i d)

@@ -1,8 +1,11 @@
 -- The members of lists that are put together from others. Assumes nothing.
+use Prim.Native.Nat.{ℕ, zero, suc, _<_}
+use native.Mathlib.Nat.{le-of-suc-le-suc, not-suc-le-zero}
 use mathlib.Core.Bool.{Bool, true, false}
 use mathlib.Core.List.{List, [], _∷_, map, List·Memᴰ as In, List·Memᴰ·head as here, List·Memᴰ·tail as there, List·Memᴰ·not-nil, Memᴰ·append-left, Memᴰ·append-right, List·Memᴰ·append-cases}
 use mathlib.Core.Logic.{⊎-elim}
 use mathlib.Core.Path.{_≡_, refl, ap, subst}
+use lib.ListN.{length, getD}
 use Rattle.lists.specs.All.{All}
 use Rattle.lists.specs.Those.{those}
 use Rattle.lists.specs.Joined.{joined}
@@ -57,6 +60,12 @@ module _ {A : Type 0} (test : A → Bool) where
       go : (b : Bool) → test y ≡ b → (In x (those test xs) → In x xs × (test x ≡ true)) → In x (y ∷ xs) × (test x ≡ true)
       go true p rest = first p rest (rw p at h)
       go false p rest = later (rest (rw p at h))
+
+-- the element at an index is a member
+pub in-at : {A : Type 0} (d : A) (xs : List A) (i : ℕ) → i < length xs → In (getD xs i d) xs
+in-at d [] i h = absurd (not-suc-le-zero h)
+in-at d (x ∷ xs) zero h = here refl
+in-at d (x ∷ xs) (suc i) h = there (in-at d xs i (le-of-suc-le-suc h))
 
 -- what holds of every element holds of each member
 pub all-in : {A : Type 0} (P : A → Type 0) (xs : List A) (x : A) → All P xs → In x xs → P x

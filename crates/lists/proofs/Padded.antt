@@ -1,9 +1,10 @@
 -- A list brought to a length: its entries, and one more. Assumes nothing.
-use Prim.Native.Nat.{ℕ, suc, _+_, _-_, _≤_, _<_}
+use Prim.Native.Nat.{ℕ, zero, suc, _+_, _-_, _≤_, _<_}
+use native.Mathlib.Nat.{sub-zero, suc-sub-suc, le-of-suc-le-suc}
 use native.Mathlib.Omega.{arith}
 use mathlib.Core.List.{List, [], _∷_, _++_}
-use mathlib.Core.Path.{_≡_, sym, ap, _∙_}
-use lib.ListN.{length, set, take, replicate, length-append, length-replicate, replicate-append-replicate}
+use mathlib.Core.Path.{_≡_, refl, sym, ap, _∙_}
+use lib.ListN.{length, getD, set, take, replicate, length-append, length-replicate, replicate-append-replicate}
 use lib.Seq.{take-at, take-take, take-append-le, take-append-add, take-append-seam, set-append-seam, append-snoc, length-take-le}
 use Rattle.lists.specs.Padded.{padded}
 
@@ -45,3 +46,21 @@ module _ {A : Type 0} where
 
   pub take-count : (n count : ℕ) (zero-entry : A) (xs : List A) → count ≡ length xs → count ≤ n → take count (padded n zero-entry xs) ≡ xs
   take-count n count zero-entry xs e h = rw e (take-padded n zero-entry xs (omega arith))
+
+  -- past it, zero entries
+  getD-replicate : (k i : ℕ) (zero-entry : A) → getD (replicate k zero-entry) i zero-entry ≡ zero-entry
+  getD-replicate zero i zero-entry = refl
+  getD-replicate (suc k) zero zero-entry = refl
+  getD-replicate (suc k) (suc i) zero-entry = getD-replicate k i zero-entry
+
+  getD-past : (xs ys : List A) (i : ℕ) (d : A) → length xs ≤ i → getD (xs ++ ys) i d ≡ getD ys (i - length xs) d
+  getD-past [] ys i d h = rw sub-zero
+  getD-past (x ∷ xs) ys zero d h = absurd (omega arith)
+  getD-past (x ∷ xs) ys (suc i) d h = getD-past xs ys i d (le-of-suc-le-suc h) ∙ rw suc-sub-suc
+
+  pub padded-past : (n : ℕ) (zero-entry : A) (xs : List A) (i : ℕ) → length xs ≤ n → length xs ≤ i → getD (padded n zero-entry xs) i zero-entry ≡ zero-entry
+  padded-past n zero-entry xs i few past =
+      let k = n - length xs in
+      ap (λ (l : List A). getD l i zero-entry) (padded-room n k zero-entry xs (omega arith))
+      ∙ getD-past xs (replicate k zero-entry) i zero-entry past
+      ∙ getD-replicate k (i - length xs) zero-entry

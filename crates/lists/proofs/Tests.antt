@@ -1,5 +1,6 @@
--- What the code's tests and `&&` tell. Assumes nothing.
-use mathlib.Core.Bool.{Bool, true, false, not, _&&_, false≢true}
+-- What the code's tests, `&&` and `||` tell. Assumes nothing.
+use mathlib.Core.Bool.{Bool, true, false, not, _&&_, _||_, false≢true}
+use mathlib.Core.Logic.{_⊎_, inl, inr}
 use mathlib.Core.Path.{_≡_, refl, sym, _∙_}
 use borrow.Author.Tests.{not-true, not-false}
 
@@ -21,3 +22,25 @@ both-right false b e = absurd (false≢true e)
 pub not-is : (a : Bool) → not a ≡ true → a ≡ false
 not-is true e = absurd (false≢true e)
 not-is false e = refl
+
+pub both-hold : (a b : Bool) → a ≡ true → b ≡ true → a && b ≡ true
+both-hold a b e f = rw (e, f)
+
+pub one-holds : (a b : Bool) → a || b ≡ true → (a ≡ true) ⊎ (b ≡ true)
+one-holds true b e = inl refl
+one-holds false b e = inr e
+
+pub left-holds : (a b : Bool) → a ≡ true → a || b ≡ true
+left-holds a b e = rw e
+
+pub right-holds : (a b : Bool) → b ≡ true → a || b ≡ true
+right-holds true b e = refl
+right-holds false b e = e
+
+pub neither-left : (a b : Bool) → a || b ≡ false → a ≡ false
+neither-left false b e = refl
+neither-left true b e = e
+
+pub neither-right : (a b : Bool) → a || b ≡ false → b ≡ false
+neither-right false b e = e
+neither-right true b e = absurd (false≢true (sym e))

@@ -1,3 +1,4 @@
 pub mod Model
 pub mod Computed
 pub mod Proved
+pub mod Inside

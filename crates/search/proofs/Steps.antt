@@ -7,15 +7,13 @@ use mathlib.Core.List.{List, [], _∷_, map}
 use mathlib.Core.Option.{Option}
 use mathlib.Core.Path.{_≡_, ap, subst, _∙_}
 use lib.ListN.{length, getD, set, take, drop, length-map, List·getD-map, length-take, drop-of-length-le}
-use lib.Seq.{drop-cons, getD-take, length-take-le}
-use Rattle.lists.specs.All.{All}
-use Rattle.lists.proofs.All.{all-at}
+use lib.Seq.{drop-cons}
 use Rattle.lists.proofs.Latest.{latest-none, latest-set}
 use Rattle.book.specs.declared.Segment.{Segment}
 use Rattle.book.specs.declared.Bid.{Bid}
 use Rattle.book.specs.Entries.{BidEntries, bidEntries}
 use Rattle.book.proofs.Records.{noSegment, noBid}
-use Rattle.book.proofs.Accepted.{AcceptedBid}
+use Rattle.book.proofs.Bids.{length-entries, entry-at}
 use Rattle.supply.specs.Supply.{segment0, supplyOf, suppliesOf}
 use Rattle.divisions.specs.Award.{Priced, pick}
 use Rattle.choices.proofs.Choice.{fits, filled}
@@ -92,22 +90,11 @@ module _ (bids : List Bid) (n : ℕ) (held : n ≤ length bids) where
   abbrev entries : List BidEntries
   entries = map bidEntries (take n bids)
 
-  length-entries : length entries ≡ n
-  length-entries = length-map (take n bids) bidEntries ∙ length-take-le n bids held
-
-  entry-at : (i : ℕ) → i < n → getD entries i (bidEntries noBid) ≡ bidEntries (getD bids i noBid)
-  entry-at i h = List·getD-map bidEntries (take n bids) i noBid ∙ ap bidEntries (getD-take n bids i noBid h)
-
-  pub accepted-at : (i : ℕ) → i < n → All AcceptedBid entries → AcceptedBid (bidEntries (getD bids i noBid))
-  accepted-at i h all =
-      let l : i < length entries = rw length-entries h in
-      subst AcceptedBid (entry-at i h) (all-at AcceptedBid (bidEntries noBid) entries all i l)
-
   length-supplies : length (suppliesOf entries) ≡ n
-  length-supplies = length-map entries supplyOf ∙ length-entries
+  length-supplies = length-map entries supplyOf ∙ length-entries bids n held
 
   supply-at : (i : ℕ) → i < n → getD (suppliesOf entries) i (supplyOf (bidEntries noBid)) ≡ supplyOf (bidEntries (getD bids i noBid))
-  supply-at i h = List·getD-map supplyOf entries i (bidEntries noBid) ∙ ap supplyOf (entry-at i h)
+  supply-at i h = List·getD-map supplyOf entries i (bidEntries noBid) ∙ ap supplyOf (entry-at bids n held i h)
 
   module _ (demand at : ℕ) (c : List Segment) (o : Option Priced) where
     pub bidders-done : n ≤ at → search demand (drop at (suppliesOf entries)) c o ≡ leaf demand c o

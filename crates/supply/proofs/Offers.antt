@@ -92,7 +92,7 @@ small-here : (s : Segment) (ss : List Segment) (r : ℕ) → InRange s → on s 
 unfolding priceAt
 small-here s ss r range e =
     let few = on-small s r e (range .end-high) in
-    record { quantity = few; price = rw e (price-small s r range few) }
+    record { quantity = few; price = rw e (price-small s r (range .unit-high) (range .fixed-size) few) }
 
 small-past : (s : Segment) (ss : List Segment) (r : ℕ) → on s r ≡ false → Small ss r → Small (s ∷ ss) r
 unfolding priceAt

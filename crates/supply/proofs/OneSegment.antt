@@ -1,14 +1,15 @@
 -- In an accepted book a quantity is on at most one segment of a bid, and its price is the one there. Assumes nothing.
 use Prim.Native.Nat.{ℕ, zero, suc, _≤_, _<_}
-use native.Mathlib.Nat.{le-of-suc-le-suc, not-suc-le-zero}
+use native.Mathlib.Nat.{le-of-suc-le-suc}
 use native.Mathlib.Omega.{arith}
 use mathlib.Core.Bool.{true, false, _&&_, and-false}
-use mathlib.Core.List.{List, [], _∷_}
+use mathlib.Core.List.{List, [], _∷_, List·Memᴰ as In, List·Memᴰ·head as here, List·Memᴰ·tail as there, List·Memᴰ·not-nil}
 use mathlib.Core.Path.{_≡_, refl, ap}
 use borrow.Author.Tests.{ltb-true, leb-true, lt-leb}
 use lib.Dec.{leb, ltb}
 use lib.ListN.{length, getD}
 use Rattle.lists.proofs.Tests.{both-left, both-right}
+use Rattle.lists.proofs.Members.{in-at}
 use Rattle.book.specs.declared.Segment.{Segment}
 use Rattle.book.specs.Entries.{BidEntries}
 use Rattle.book.specs.Rules.{segmentsRise, priceOn}
@@ -47,30 +48,31 @@ step before s ss e =
     record { above = ltb-true before (s .start .0) (both-left a o front); order = leb-true (s .start .0) (s .end .0) (both-right a o front); rest = both-right (a && o) r e }
 
 -- a quantity on a later segment is above what stands before
-beyond : (before : ℕ) (ss : List Segment) (j r : ℕ) → segmentsRise before ss ≡ true → j < length ss → on (segmentAt ss j) r ≡ true
-    → before < r
-beyond before [] j r e h o = absurd (not-suc-le-zero h)
-beyond before (s ∷ ss) zero r e h o = let t = step before s ss e in omega (arith, t .above, on-low s r o)
-beyond before (s ∷ ss) (suc j) r e h o =
-    let t = step before s ss e in
-    omega (arith, t .above, t .order, beyond (s .end .0) ss j r (t .rest) (le-of-suc-le-suc h) o)
+pub beyond : (before : ℕ) (ss : List Segment) (s : Segment) (r : ℕ) → segmentsRise before ss ≡ true → In s ss → on s r ≡ true → before < r
+beyond before [] s r e m o = absurd (List·Memᴰ·not-nil m)
+beyond before (t ∷ ts) s r e (here p) o =
+    let i = step before t ts e in
+    let o′ : on t r ≡ true = rw p at o in
+    omega (arith, i .above, on-low t r o′)
+beyond before (t ∷ ts) s r e (there m) o =
+    let i = step before t ts e in
+    omega (arith, i .above, i .order, beyond (t .end .0) ts s r (i .rest) m o)
 
 -- Of a segment and those that rise above its end: a quantity on one of them is on no other, and has the price there.
 
-price-there : (s : Segment) (ss : List Segment) (j r : ℕ) → segmentsRise (s .end .0) ss ≡ true → j < length (s ∷ ss)
-    → on (segmentAt (s ∷ ss) j) r ≡ true → priceAt (s ∷ ss) r ≡ priceOn (segmentAt (s ∷ ss) j) r
+pub price-there : (t : Segment) (ts : List Segment) (s : Segment) (r : ℕ) → segmentsRise (t .end .0) ts ≡ true → In s (t ∷ ts) → on s r ≡ true
+    → priceAt (t ∷ ts) r ≡ priceOn s r
 unfolding priceAt
-price-there s ss zero r e h o = rw o
-price-there s [] (suc j) r e h o = absurd (omega arith)
-price-there s (t ∷ ts) (suc j) r e h o =
-    let l = le-of-suc-le-suc h in
-    rw (off-above s r (beyond (s .end .0) (t ∷ ts) j r e l o)) (price-there t ts j r (step (s .end .0) t ts e .rest) l o)
+price-there t ts s r e (here p) o = let o′ : on t r ≡ true = rw p at o in rw (o′, p)
+price-there t [] s r e (there m) o = absurd (List·Memᴰ·not-nil m)
+price-there t (u ∷ us) s r e (there m) o =
+    rw (off-above t r (beyond (t .end .0) (u ∷ us) s r e m o)) (price-there u us s r (step (t .end .0) u us e .rest) m o)
 
 one-there : (s : Segment) (ss : List Segment) (j k r : ℕ) → segmentsRise (s .end .0) ss ≡ true → j < length (s ∷ ss) → k < length (s ∷ ss)
     → on (segmentAt (s ∷ ss) j) r ≡ true → on (segmentAt (s ∷ ss) k) r ≡ true → j ≡ k
 one-there s ss zero zero r e hj hk oj ok = refl
-one-there s ss zero (suc k) r e hj hk oj ok = absurd (omega (arith, on-high s r oj, beyond (s .end .0) ss k r e (le-of-suc-le-suc hk) ok))
-one-there s ss (suc j) zero r e hj hk oj ok = absurd (omega (arith, on-high s r ok, beyond (s .end .0) ss j r e (le-of-suc-le-suc hj) oj))
+one-there s ss zero (suc k) r e hj hk oj ok = absurd (omega (arith, on-high s r oj, beyond (s .end .0) ss (segmentAt ss k) r e (in-at segment0 ss k (le-of-suc-le-suc hk)) ok))
+one-there s ss (suc j) zero r e hj hk oj ok = absurd (omega (arith, on-high s r ok, beyond (s .end .0) ss (segmentAt ss j) r e (in-at segment0 ss j (le-of-suc-le-suc hj)) oj))
 one-there s [] (suc j) (suc k) r e hj hk oj ok = absurd (omega arith)
 one-there s (t ∷ ts) (suc j) (suc k) r e hj hk oj ok =
     ap suc (one-there t ts j k r (step (s .end .0) t ts e .rest) (le-of-suc-le-suc hj) (le-of-suc-le-suc hk) oj ok)
@@ -79,7 +81,7 @@ one-there s (t ∷ ts) (suc j) (suc k) r e hj hk oj ok =
 module _ (b : BidEntries) (accepted : AcceptedBid b) (r : ℕ) where
   pub the-price : (j : ℕ) → j < length (supplyOf b) → on (segmentAt (supplyOf b) j) r ≡ true
       → priceAt (supplyOf b) r ≡ priceOn (segmentAt (supplyOf b) j) r
-  the-price j h o = price-there segment0 (b .segments) j r (accepted .rises) h o
+  the-price j h o = price-there segment0 (b .segments) (segmentAt (supplyOf b) j) r (accepted .rises) (in-at segment0 (supplyOf b) j h) o
 
   pub one-segment : (j k : ℕ) → j < length (supplyOf b) → k < length (supplyOf b) → on (segmentAt (supplyOf b) j) r ≡ true
       → on (segmentAt (supplyOf b) k) r ≡ true → j ≡ k

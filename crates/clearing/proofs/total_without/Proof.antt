@@ -1,7 +1,7 @@
 use borrow.Author.Tests.{not-true, not-false}
 use Rattle.book.specs.Entries.{bookEntries}
 use Rattle.book.proofs.Accepted.{book-accepted}
-use Rattle.clearing.proofs.Searchable.{searchable-without}
+use Rattle.clearing.proofs.Searchable.{searchable, searchable-without}
 use Rattle.clearing.proofs.Answers.{total-amount, total-nothing}
 use Rattle.clearing.proofs.total_without.Statement.{statement}
 use Rattle.clearing.proofs.total_without.Tie as tie
@@ -11,7 +11,8 @@ without-requires c κs = (c .pre .1, book-accepted (bookEntries (c .args .book))
 
 best-division-requires : tie.Need-best-division-requires
 best-division-requires c κs =
-    searchable-without _ (c .before .pre .0) (c .before .args .at) (c .without .result) (c .without .ensures)
+    let accepted = c .before .pre .0 in
+    search (searchable _ accepted, searchable-without _ accepted (c .before .args .at) (c .without .result) (c .without .ensures))
 
 returns : tie.Need-returns
 returns c =

@@ -10,7 +10,8 @@ use Rattle.choices.proofs.Sound.{SoundSegment}
 use Rattle.filling.specs.Records.{chosen}
 use Rattle.filling.proofs.Sums.{sound-at}
 use Rattle.filling.proofs.Prices.{price-fits}
-use Rattle.filling.proofs.Filling.{Filling, starts-fit, share-left, share-end, filling-none, total-fits, filling-next, filling-all}
+use Rattle.choices.proofs.Placed.{fits-low}
+use Rattle.filling.proofs.Filling.{Filling, share-left, share-end, filling-none, total-fits, filling-next, filling-all}
 use Rattle.filling.proofs.fill.Statement.{statement}
 use Rattle.filling.proofs.fill.Tie as tie
 
@@ -47,7 +48,7 @@ starts-requires c κs = search needs
 sub-left : tie.Need-sub-left Inv-loop μ-loop
 sub-left c =
     let s = c .before .before in
-    omega (arith, starts-fit (s .args .demand .0) (chosen (s .args .t1)) (s .pre .1), c .before .starts .ensures)
+    omega (arith, fits-low (s .args .demand .0) (chosen (s .args .t1)) (s .pre .1), c .before .starts .ensures)
 
 loop-holds : tie.Need-loop-holds Inv-loop μ-loop
 loop-holds c = filling-none _ _ _ _ refl

@@ -9,12 +9,12 @@ use Rattle.lists.proofs.Slices.{length-held}
 use Rattle.book.specs.declared.Bid.{Bid}
 use Rattle.book.specs.Entries.{bidEntries, bookEntries}
 use Rattle.book.proofs.Records.{noBid}
-use Rattle.book.proofs.Accepted.{AcceptedBid}
+use Rattle.book.proofs.Accepted.{AcceptedBid, accepted-at}
 use Rattle.supply.specs.Supply.{supplyOf, suppliesOf}
 use Rattle.choices.proofs.Search.{each, leaf}
 use Rattle.choices.proofs.Accepted.{sound-segment-at}
 use Rattle.filling.specs.Records.{chosen, found}
-use Rattle.search.proofs.Steps.{for-all, each-none, each-next, each-all, tried, accepted-at, bidders-done, bidders-next, few-segments}
+use Rattle.search.proofs.Steps.{for-all, each-none, each-next, each-all, tried, bidders-done, bidders-next, few-segments}
 use Rattle.search.proofs.search.Reads as search′
 use Rattle.search.proofs.search.Kinds as search-kinds
 use Rattle.search.proofs.+search.Lts-search as search-lts
@@ -77,7 +77,7 @@ bid t c = getD (c .before .args .t1 .bids) (c .before .args .at) noBid
 accepted : (t : ℕ) (c : Bidder t) → AcceptedBid (bidEntries (bid t c))
 accepted t c =
     let s = c .before in
-    accepted-at (s .args .t1 .bids) (s .args .t1 .count) (held t s) (s .args .at) (further t c) (s .pre .1 .0 .bids)
+    accepted-at (s .args .t1 .bids) (s .args .t1 .count) (held t s) (s .pre .1 .0 .bids) (s .args .at) (further t c)
 
 search-leaf-requires : (t : ℕ) → search-lts.Need-leaf-requires (R t) (search-at t) search′.Post search-Inv-loop search-μ-loop
 search-leaf-requires t c κs = search needs

@@ -58,7 +58,7 @@ price-requires c κs =
     let i = l .before .loop .i in
     let here = getD (b .segments) i noSegment in
     let range = in-range here (every-within segmentInRange (b .segments) i (b .count) noSegment (l .loop-test .taken) (held l) (s .pre .1)) in
-    price-fits here (s .args .quantity .0) range (on-small here (s .args .quantity .0) (sym (t .before .on-segment .ensures) ∙ t .if2 .taken) (range .end-high))
+    price-fits here (s .args .quantity .0) (range .unit-high) (range .fixed-size) (on-small here (s .args .quantity .0) (sym (t .before .on-segment .ensures) ∙ t .if2 .taken) (range .end-high))
 
 returns-2 : tie.Need-returns-2 Inv-loop μ-loop
 returns-2 c =

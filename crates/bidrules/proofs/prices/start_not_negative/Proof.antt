@@ -11,7 +11,7 @@ price-requires : tie.Need-price-requires
 price-requires c κs =
     let a = c .before .before .before in
     let range = in-range (a .args .s) (a .pre) in
-    price-fits (a .args .s) (a .args .s .start .0) range (range .start-high)
+    price-fits (a .args .s) (a .args .s .start .0) (range .unit-high) (range .fixed-size) (range .start-high)
 
 at-most-requires : tie.Need-at-most-requires
 at-most-requires c κs = search needs

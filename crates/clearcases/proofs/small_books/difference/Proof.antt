@@ -7,8 +7,8 @@ use mir.Syntax.{w64}
 use mir.Val.{SFits, toZ}
 use mir.ValLaws.{toZ-pos}
 use Rattle.money.proofs.Bounds.{natAbs-plus, small-fits}
-use Rattle.clearcases.proofs.rule.difference.Statement.{statement}
-use Rattle.clearcases.proofs.rule.difference.Tie as tie
+use Rattle.clearcases.proofs.small_books.difference.Statement.{statement}
+use Rattle.clearcases.proofs.small_books.difference.Tie as tie
 
 natAbs-neg : (n : ℕ) → natAbs (negℤ (pos n)) ≡ n
 natAbs-neg zero = refl
