@@ -1,6 +1,5 @@
 -- What clearing answers, by cases: a book's own refusal, no division, or an award. Assumes nothing.
 use Prim.Native.Nat.{ℕ}
-use native.Mathlib.Omega.{arith}
 use mathlib.Core.Option.{Option, some, none}
 use mathlib.Core.Path.{_≡_, refl, ap, _∙_}
 use Rattle.refusal.specs.declared.Rule.{Rule}
@@ -14,6 +13,7 @@ use Rattle.divisions.specs.Award.{Priced}
 use Rattle.award.specs.Award.{noAward}
 use Rattle.clearing.specs.declared.Clearing.{Clearing}
 use Rattle.clearing.specs.Clearing.{awardOfBook, awardRecord, refusedClearing, clearedBook, clearOf}
+use Rattle.cleared.proofs.Apart.{accepted-refused}
 
 -- the same book, the same answer
 pub same-clear : (a b : Book) → SameBook a b → clearOf (bookEntries a) ≡ clearOf (bookEntries b)
@@ -51,14 +51,8 @@ module _ (b : BookEntries) where
   cleared h = go (bookVerdict b) refl (awardOfBook b) refl
     where
       go : (v : Verdict) → bookVerdict b ≡ v → (o : Option Priced) → awardOfBook b ≡ o → Cleared
-      go (Refused rule line) e o f =
-          let refused : clearOf b .verdict ≡ Refused rule line = ap (λ (c : Clearing). c .verdict) (rules-first rule line e) in
-          let z : _≡_ {A = ℕ} 0 1 = cc in
-          absurd (omega arith)
-      go Accepted e none f =
-          let refused : clearOf b .verdict ≡ Refused NotCovered 0 = ap (λ (c : Clearing). c .verdict) (no-division e f) in
-          let z : _≡_ {A = ℕ} 0 1 = cc in
-          absurd (omega arith)
+      go (Refused rule line) e o f = absurd (accepted-refused (clearOf b .verdict) rule line h (ap (λ (c : Clearing). c .verdict) (rules-first rule line e)))
+      go Accepted e none f = absurd (accepted-refused (clearOf b .verdict) NotCovered 0 h (ap (λ (c : Clearing). c .verdict) (no-division e f)))
       go Accepted e (some award) f = record { accepted = e; award = award; is-award = f; answer = division award e f }
 
   -- with each refusal the award is all zeros and `none`
@@ -66,9 +60,6 @@ module _ (b : BookEntries) where
   refused-blank rule place h = go (bookVerdict b) refl (awardOfBook b) refl
     where
       go : (v : Verdict) → bookVerdict b ≡ v → (o : Option Priced) → awardOfBook b ≡ o → clearOf b .award ≡ noAward
-      go (Refused rule line) e o f = ap (λ (c : Clearing). c .award) (rules-first rule line e)
+      go (Refused first line) e o f = ap (λ (c : Clearing). c .award) (rules-first first line e)
       go Accepted e none f = ap (λ (c : Clearing). c .award) (no-division e f)
-      go Accepted e (some award) f =
-          let accepted : clearOf b .verdict ≡ Accepted = ap (λ (c : Clearing). c .verdict) (division award e f) in
-          let z : _≡_ {A = ℕ} 0 1 = cc in
-          absurd (omega arith)
+      go Accepted e (some award) f = absurd (accepted-refused (clearOf b .verdict) rule place (ap (λ (c : Clearing). c .verdict) (division award e f)) h)

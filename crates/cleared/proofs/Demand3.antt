@@ -8,8 +8,11 @@ use mathlib.Core.Option.{Option, some, none}
 use mathlib.Core.Path.{_≡_, refl, sym, ap, _∙_, subst}
 use lib.IntN.{ℤ}
 use lib.ListN.{length, getD, length-map, drop-of-length-le}
+use Rattle.lists.proofs.All.{all-any, all-map}
+use Rattle.lists.proofs.Removed.{removed, map-removed}
 use Rattle.refusal.specs.declared.Rule.the-variants.{NotCovered}
 use Rattle.refusal.specs.declared.Verdict.the-variants.{Accepted, Refused}
+use Rattle.money.specs.Price.{priceOf}
 use Rattle.money.specs.declared.Cents.{Cents}
 use Rattle.book.specs.declared.Book.{Book}
 use Rattle.book.specs.Entries.{BidEntries, BookEntries, bidEntries, bookEntries}
@@ -17,11 +20,12 @@ use Rattle.book.specs.Rules.{bookVerdict}
 use Rattle.book.proofs.Records.{noBid}
 use Rattle.book.proofs.Bids.{length-entries}
 use Rattle.book.proofs.Accepted.{book-accepted, all-accepted}
-use Rattle.supply.specs.Supply.{suppliesOf}
+use Rattle.supply.specs.Supply.{supplyOf, suppliesOf, on, offers, priceAt}
 use Rattle.supply.specs.Allocation.{total}
 use Rattle.divisions.specs.Division.{Allocation}
-use Rattle.divisions.specs.Award.{Priced}
+use Rattle.divisions.specs.Award.{Priced, awardOf}
 use Rattle.divisions.specs.Best.{insideCount}
+use Rattle.divisions.proofs.Without.{SellsNothing, same-award}
 use Rattle.divisions.proofs.Award.{as-many, award-is, no-award-iff}
 use Rattle.choices.proofs.Accepted.{sound-supplies}
 use Rattle.choices.proofs.OneInside.{at-most-one-inside}
@@ -32,6 +36,7 @@ use Rattle.clearing.specs.declared.Clearing.{Clearing}
 use Rattle.clearing.specs.Clearing.{awardOfBook, bookWithout, totalOf, totalWithout, clearOf}
 use Rattle.cleared.specs.OfBook.{DivisionOf, IsAwardOf}
 use Rattle.cleared.specs.Awarded.{rowAt, awarded}
+use Rattle.cleared.proofs.Apart.{accepted-refused, amount-nothing}
 use Rattle.cleared.proofs.Rows.{record-awarded, record-row, record-past}
 use Rattle.cleared.proofs.Answers.{Cleared, cleared, no-division, division}
 
@@ -51,9 +56,7 @@ module _ (b : BookEntries) where
       none-of : (o : Option Priced) → awardOfBook b ≡ o → clearOf b .verdict ≡ Refused NotCovered 0 → awardOfBook b ≡ none
       none-of none f h = f
       none-of (some award) f h =
-          let accepted : clearOf b .verdict ≡ Accepted = ap (λ (c : Clearing). c .verdict) (division b award e f) in
-          let z : _≡_ {A = ℕ} 0 1 = cc in
-          absurd (omega arith)
+          absurd (accepted-refused (clearOf b .verdict) NotCovered 0 (ap (λ (c : Clearing). c .verdict) (division b award e f)) h)
 
   -- and an accepted book is covered exactly when there is one
   pub covered-iff : bookVerdict b ≡ Accepted → (clearOf b .verdict ≡ Accepted) ↔ ((rs : List ℕ) × DivisionOf b rs)
@@ -72,23 +75,22 @@ module _ (b : BookEntries) where
     where
       none-of : (o : Option Priced) → awardOfBook b ≡ o → totalOf (awardOfBook b) ≡ Nothing → awardOfBook b ≡ none
       none-of none f h = f
-      none-of (some award) f h =
-          let amount : totalOf (awardOfBook b) ≡ Amount (record { 0 = award .cost }) = ap totalOf f in
-          let z : _≡_ {A = ℕ} 0 1 = cc in
-          absurd (omega arith)
+      none-of (some award) f h = absurd (amount-nothing (totalOf (awardOfBook b)) (record { 0 = award .cost }) (ap totalOf f) h)
 
   total-amount : (cents : ℤ) → totalOf (awardOfBook b) ≡ Amount (record { 0 = cents }) → (award : Priced) × IsAwardOf b award × (award .cost ≡ cents)
   total-amount cents h = go (awardOfBook b) refl
     where
       go : (o : Option Priced) → awardOfBook b ≡ o → (award : Priced) × IsAwardOf b award × (award .cost ≡ cents)
-      go none f =
-          let nothing : totalOf (awardOfBook b) ≡ Nothing = ap totalOf f in
-          let z : _≡_ {A = ℕ} 0 1 = cc in
-          absurd (omega arith)
+      go none f = absurd (amount-nothing (totalOf (awardOfBook b)) (record { 0 = cents }) h (ap totalOf f))
       go (some award) f =
           let amount : totalOf (awardOfBook b) ≡ Amount (record { 0 = award .cost }) = ap totalOf f in
           let same : _≡_ {A = Cents} (record { 0 = award .cost }) (record { 0 = cents }) = cc in
           (award, award-of-book award f, ap (λ (x : Cents). x .0) same)
+
+-- nothing is on segment 0, at price 0
+sells-nothing : (b : BidEntries) → SellsNothing (supplyOf b)
+unfolding offers on priceAt priceOf
+sells-nothing b = record { offered = refl; free = refl }
 
 -- no bids at all have no division
 nobody-sells : (b : BookEntries) (rs : List ℕ) → b .bids ≡ [] → 1 ≤ b .demand → DivisionOf b rs → ⊥
@@ -178,3 +180,21 @@ module _ (book : Book) (held : length (book .bids) ≡ 8) where
     none-without-sole one =
         let some-demand = book-accepted b (c .accepted) .demand-low in
         none-without-iff 0 (omega arith) .1 (λ rs d. nobody-sells (bookWithout 0 b) rs (nobody-left one) some-demand d)
+
+    -- a bidder who sells nothing has the award's total as its total without
+    left-award : (i : ℕ) → i < b .count → getD (c .award .quantities) i 0 ≡ 0
+        → awardOfBook (bookWithout i b) ≡ some (record { cost = c .award .cost; quantities = removed i (c .award .quantities) })
+    unfolding awardOfBook bookWithout
+    left-award i h e =
+        let supplies = suppliesOf (b .bids) in
+        let bidder : i < length supplies = omega (arith, complete (c .accepted), length-map (b .bids) supplyOf) in
+        ap (awardOf (b .demand)) (map-removed supplyOf i (b .bids))
+        ∙ same-award (b .demand) supplies (all-map supplyOf SellsNothing (b .bids) (all-any _ sells-nothing (b .bids))) i bidder (c .award) (c .is-award) e
+
+    pub without-same : (i : ℕ) → i < b .count → rowAt (answer .award) i .quantity .0 ≡ 0
+        → rowAt (answer .award) i .without ≡ Amount (answer .award .total)
+    unfolding rowOf
+    without-same i h e =
+        let sold : getD (awarded (answer .award) .quantities) i 0 ≡ 0 = sym (ap (λ (row : Row). row .quantity .0) (row-is i h)) ∙ e in
+        let none-sold : getD (c .award .quantities) i 0 ≡ 0 = ap (λ (d : Priced). getD (d .quantities) i 0) (sym says) ∙ sold in
+        without-is i h ∙ ap totalOf (left-award i h none-sold) ∙ ap (λ (d : Priced). Amount (record { 0 = d .cost })) (sym says)

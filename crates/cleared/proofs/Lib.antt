@@ -1,3 +1,4 @@
+pub mod Apart
 pub mod Rows
 pub mod Answers
 pub mod Demand3

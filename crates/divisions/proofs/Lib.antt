@@ -3,3 +3,4 @@ pub mod Order
 pub mod Best
 pub mod Listed
 pub mod Award
+pub mod Without
