@@ -8,6 +8,7 @@ use money::Blanks;
 use money::Cents;
 use money::CentsPerBlank;
 
+// A segment; where it ends is told for the rule that makes small books.
 pub fn segment(start: u64, end: u64, unit: u64, fixed: i64) -> Segment
     ensures { λ r. ⌜ r .end .0 ≡ end ⌝ }
 {
