@@ -34,11 +34,12 @@ use Rattle.award.specs.declared.Row.{Row}
 use Rattle.award.specs.Award.{noRow, rowOf}
 use Rattle.clearing.specs.declared.Clearing.{Clearing}
 use Rattle.clearing.specs.Clearing.{awardOfBook, bookWithout, totalOf, totalWithout, clearOf}
+use Rattle.clearing.proofs.Answers.{no-division, division}
 use Rattle.cleared.specs.OfBook.{DivisionOf, IsAwardOf}
 use Rattle.cleared.specs.Awarded.{rowAt, awarded}
 use Rattle.cleared.proofs.Apart.{accepted-refused, amount-nothing}
 use Rattle.cleared.proofs.Rows.{record-awarded, record-row, record-past}
-use Rattle.cleared.proofs.Answers.{Cleared, cleared, no-division, division}
+use Rattle.cleared.proofs.Answers.{Cleared, cleared}
 
 module _ (b : BookEntries) where
   pub award-of-book : (award : Priced) → awardOfBook b ≡ some award → IsAwardOf b award

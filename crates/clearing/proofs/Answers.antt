@@ -1,4 +1,4 @@
--- The total without a bidder, and the answer of clearing, from what the search found. Assumes nothing.
+-- The answer of clearing by cases, and it and the total without a bidder from what the search found. Assumes nothing.
 use Prim.Native.Nat.{ℕ}
 use mathlib.Core.Bool.{true, false}
 use mathlib.Core.List.{List}
@@ -21,6 +21,28 @@ use Rattle.award.specs.declared.Row.{Row}
 use Rattle.award.specs.Award.{noRow}
 use Rattle.clearing.specs.declared.Clearing.{Clearing}
 use Rattle.clearing.specs.Clearing.{awardOfBook, bookWithout, totalOf, totalWithout, rowsFrom, awardRecord, refusedClearing, clearedBook, clearOf}
+
+-- A book's own refusal, no division, or an award.
+module _ (b : BookEntries) where
+  -- a refusal by rules 3 to 8 comes first
+  pub rules-first : (rule : Rule) (line : ℕ) → bookVerdict b ≡ Refused rule line → clearOf b ≡ refusedClearing (Refused rule line)
+  unfolding clearOf
+  rules-first rule line e = rw e
+
+  rules-passed : bookVerdict b ≡ Accepted → clearOf b ≡ clearedBook b (awardOfBook b)
+  unfolding clearOf
+  rules-passed e = rw e
+
+  pub no-division : bookVerdict b ≡ Accepted → awardOfBook b ≡ none → clearOf b ≡ refusedClearing (Refused NotCovered 0)
+  unfolding clearedBook
+  no-division e f = rules-passed e ∙ ap (clearedBook b) f
+
+  abbrev pub covered : Priced → Clearing
+  covered award = record { verdict = Accepted; award = awardRecord b award }
+
+  pub division : (award : Priced) → bookVerdict b ≡ Accepted → awardOfBook b ≡ some award → clearOf b ≡ covered award
+  unfolding clearedBook
+  division award e f = rules-passed e ∙ ap (clearedBook b) f
 
 -- what clearing gives with these rows, where a division was found
 abbrev awarded : Book → Best → List Row → Clearing
@@ -53,22 +75,11 @@ module _ (book : Book) (best : Best) (searched : found (book .count) best ≡ aw
 
   -- where it holds an accepted book
   module _ (accepted : bookVerdict (bookEntries book) ≡ Accepted) where
-    clear-is : (o : Option Priced) → awardOfBook (bookEntries book) ≡ o → clearedBook (bookEntries book) o ≡ clearOf (bookEntries book)
-    unfolding clearOf
-    clear-is o e = rw (accepted, e)
-
     pub clear-none : best .found ≡ false → refusedClearing (Refused NotCovered 0) ≡ clearOf (bookEntries book)
-    unfolding clearedBook
-    clear-none h = clear-is none (award-none h)
+    clear-none h = sym (no-division (bookEntries book) accepted (award-none h))
 
     pub clear-award : best .found ≡ true → (rows : List Row)
         → rows ≡ padded 8 noRow (rowsFrom (bookEntries book) 0 (bookEntries book .bids) (take (book .count) (blanksIn (best .quantities))))
         → awarded book best rows ≡ clearOf (bookEntries book)
-    unfolding clearedBook awardRecord
-    clear-award h rows e = rw e (clear-is (some (divisionIn (book .count) best)) (award-some h))
-
--- a book that rules 3 to 8 refuse
-pub clear-refused : (b : BookEntries) (rule : Rule) (place : ℕ) → bookVerdict b ≡ Refused rule place
-    → refusedClearing (Refused rule place) ≡ clearOf b
-unfolding clearOf
-clear-refused b rule place e = rw e
+    unfolding awardRecord
+    clear-award h rows e = rw e (sym (division (bookEntries book) (divisionIn (book .count) best) accepted (award-some h)))

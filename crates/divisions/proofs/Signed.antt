@@ -2,11 +2,11 @@
 use Prim.Native.Nat.{ℕ, _<_}
 use native.Mathlib.Decide.{decLt}
 use native.Mathlib.Omega.{arith}
-use mathlib.Core.Bool.{Bool, true, false, false≢true}
+use mathlib.Core.Bool.{Bool, true, false, not, false≢true}
 use mathlib.Core.Logic.{_⊎_, inl, inr, ⊎-elim}
 use mathlib.Core.Path.{_≡_, refl, sym, ap, subst}
-use borrow.Author.Tests.{ltb-true, leb-true, lt-ltb, le-leb}
-use lib.Dec.{T}
+use borrow.Author.Tests.{ltb-true, leb-true, leb-false, lt-ltb, le-ltb, le-leb}
+use lib.Dec.{T, leb, ltb}
 use lib.IntN.{ℤ, pos, negsuc}
 use lib.Signed.{ltZ, leZ, _<ℤ_}
 
@@ -50,6 +50,27 @@ at-most-cases (pos a) (pos b) h = ⊎-elim (λ k. inl (lt-ltb a b k)) (⊎-elim 
 at-most-cases (pos a) (negsuc b) h = absurd (false≢true h)
 at-most-cases (negsuc a) (pos b) h = inl refl
 at-most-cases (negsuc a) (negsuc b) h = ⊎-elim (λ k. absurd (omega (arith, leb-true b a h))) (⊎-elim (λ k. inr (ap negsuc k)) (λ k. inl (lt-ltb b a k))) (order a b)
+
+ltb-not : (a b : ℕ) → ltb a b ≡ not (leb b a)
+ltb-not a b = go (leb b a) refl
+  where
+    go : (t : Bool) → leb b a ≡ t → ltb a b ≡ not t
+    go true e = le-ltb a b (leb-true b a e)
+    go false e = lt-ltb a b (leb-false b a e)
+
+-- less is not at least
+pub less-not : (a b : ℤ) → ltZ a b ≡ not (leZ b a)
+less-not (pos a) (pos b) = ltb-not a b
+less-not (pos a) (negsuc b) = refl
+less-not (negsuc a) (pos b) = refl
+less-not (negsuc a) (negsuc b) = ltb-not b a
+
+-- of two, one is at most the other
+pub at-most-either : (a b : ℤ) → leZ a b ≡ false → leZ b a ≡ true
+at-most-either (pos a) (pos b) e = le-leb b a (omega (arith, leb-false a b e))
+at-most-either (pos a) (negsuc b) e = refl
+at-most-either (negsuc a) (pos b) e = sym e
+at-most-either (negsuc a) (negsuc b) e = le-leb a b (omega (arith, leb-false b a e))
 
 -- as the library states the order
 pub less : (a b : ℤ) → ltZ a b ≡ true → a <ℤ b

@@ -3,16 +3,16 @@ use Prim.Native.Nat.{ℕ, _+_, _≤_, _<_}
 use native.Mathlib.Omega.{arith}
 use mathlib.Core.Bool.{Bool, true, false, not, _&&_, _||_}
 use mathlib.Core.List.{List, _∷_}
-use mathlib.Core.Path.{_≡_, refl, sym, ap, _∙_}
-use borrow.Author.Tests.{leb-true, leb-false, lt-ltb, le-ltb, le-leb, eq-eqb, ne-eqb}
-use lib.Dec.{eqb, ltb, leb}
-use lib.IntN.{ℤ, pos, negsuc}
+use mathlib.Core.Path.{_≡_, ap, _∙_}
+use borrow.Author.Tests.{lt-ltb, le-ltb, eq-eqb, ne-eqb}
+use lib.Dec.{eqb, ltb}
 use lib.ListN.{length, getD, length-map, List·getD-map}
 use lib.Seq.{slice}
-use lib.Signed.{ltZ, leZ}
+use lib.Signed.{leZ}
 use Rattle.lists.proofs.Slices.{slice-next, slice-done}
 use Rattle.money.specs.declared.Blanks.{Blanks}
 use Rattle.divisions.specs.Award.{Priced, givesMore, better, pick}
+use Rattle.divisions.proofs.Signed.{less-not, at-most-either}
 use Rattle.filling.specs.declared.Best.{Best}
 use Rattle.filling.specs.Records.{blanksIn, divisionIn, found}
 
@@ -54,26 +54,6 @@ unfolding givesMore
 no-more a b i n h k = rw (slice-done (blanksIn a) i n h k)
 
 -- Costs: the code asks whether each is at most the other.
-
-ltb-not : (a b : ℕ) → ltb a b ≡ not (leb b a)
-ltb-not a b = go (leb b a) refl
-  where
-    go : (t : Bool) → leb b a ≡ t → ltb a b ≡ not t
-    go true e = le-ltb a b (leb-true b a e)
-    go false e = lt-ltb a b (leb-false b a e)
-
-less-not : (a b : ℤ) → ltZ a b ≡ not (leZ b a)
-less-not (pos a) (pos b) = ltb-not a b
-less-not (pos a) (negsuc b) = refl
-less-not (negsuc a) (pos b) = refl
-less-not (negsuc a) (negsuc b) = ltb-not b a
-
--- one of the two holds
-at-most-either : (a b : ℤ) → leZ a b ≡ false → leZ b a ≡ true
-at-most-either (pos a) (pos b) e = le-leb b a (omega (arith, leb-false a b e))
-at-most-either (pos a) (negsuc b) e = refl
-at-most-either (negsuc a) (pos b) e = sym e
-at-most-either (negsuc a) (negsuc b) e = le-leb a b (omega (arith, leb-false b a e))
 
 module _ (a b : Priced) where
   by-cost : better a b ≡ not (leZ (b .cost) (a .cost)) || (leZ (a .cost) (b .cost) && givesMore (a .quantities) (b .quantities))

@@ -6,7 +6,7 @@ use Rattle.book.specs.Entries.{bookEntries}
 use Rattle.book.specs.Rules.{bookVerdict}
 use Rattle.clearing.specs.Clearing.{refusedClearing}
 use Rattle.clearing.proofs.Searchable.{searchable}
-use Rattle.clearing.proofs.Answers.{clear-refused, clear-none, clear-award}
+use Rattle.clearing.proofs.Answers.{rules-first, clear-none, clear-award}
 use Rattle.clearing.proofs.clear.Statement.{statement}
 use Rattle.clearing.proofs.clear.Tie as tie
 
@@ -23,7 +23,7 @@ returns : tie.Need-returns
 returns c =
     let told = c .before .enum-told .given in
     let check = c .before .before .before .check in
-    c .refused .ensures ∙ ap refusedClearing (told .1) ∙ clear-refused _ (told .0 .0) (told .0 .1 .0) (sym (check .ensures) ∙ told .1)
+    c .refused .ensures ∙ ap refusedClearing (told .1) ∙ sym (rules-first _ (told .0 .0) (told .0 .1 .0) (sym (check .ensures) ∙ told .1))
 
 enum-told-2 : tie.Need-enum-told-2
 enum-told-2 c = search needs
