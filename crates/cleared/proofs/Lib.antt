@@ -2,3 +2,5 @@ pub mod Apart
 pub mod Rows
 pub mod Answers
 pub mod Demand3
+pub mod Costs
+pub mod Amounts

@@ -25,6 +25,12 @@ map-removed {A} {B} f i xs =
     ∙ ap₂ (λ (l r : List B). l ++ r) (map-take f i xs) (map-drop f (suc i) xs)
 
 module _ {A : Type 0} where
+  pub length-removed : (i : ℕ) (xs : List A) → length (removed i xs) ≤ length xs
+  length-removed zero [] = omega arith
+  length-removed zero (x ∷ xs) = omega arith
+  length-removed (suc i) [] = omega arith
+  length-removed (suc i) (x ∷ xs) = omega (arith, length-removed i xs)
+
   pub all-drop : (P : A → Type 0) (n : ℕ) (xs : List A) → All P xs → All P (drop n xs)
   all-drop P zero xs p = p
   all-drop P (suc n) [] p = tt

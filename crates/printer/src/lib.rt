@@ -1,5 +1,9 @@
-// Words and numbers written into a lent output. The functions are pub for the writers of texts, which put them together: each
-// answers the place after what it wrote, and its caller has measured that there is room.
+// Words, numbers and prices written into a lent output. The functions are pub for the writers of texts, which put them together:
+// each that writes answers the place after what it wrote, and its caller has measured that there is room.
+mod cents;
+
+pub use cents::cents_length;
+pub use cents::write_cents;
 ghost use mathlib.Core.Path.{_≡_};
 ghost use mathlib.Core.List.{_++_};
 ghost use Prim.Native.Nat.{_+_, _≤_, _<_};

@@ -5,7 +5,7 @@ use mathlib.Core.Path.{_≡_, refl}
 use lib.IntN.{pos, negℤ}
 use Rattle.supply.specs.Supply.{suppliesOf, inside, standsInside}
 use Rattle.divisions.specs.Best.{insideCount}
-use Rattle.provedcases.specs.Table.{theBids}
+use Rattle.provedcases.proofs.Books.{theBids}
 
 pub at-ends : insideCount (suppliesOf (theBids (negℤ (pos 500)))) (100 ∷ 20 ∷ 0 ∷ []) ≡ 0
 unfolding insideCount standsInside inside

@@ -1,23 +1,19 @@
 -- Demand 2: a book written out reads back as the same book, and an accepted text written out again is the same text. Assumes nothing.
-use Prim.Native.Nat.{ℕ, _+_, _≤_}
+use Prim.Native.Nat.{ℕ, _≤_}
 use native.Mathlib.Omega.{arith}
-use mathlib.Core.List.{List, [], _∷_}
+use mathlib.Core.List.{List}
 use mathlib.Core.Path.{_≡_, refl, sym, ap, _∙_, subst}
 use borrow.Author.Tests.{le-leb}
-use lib.Dec.{leb}
-use lib.ListN.{length, take, drop}
-use lib.Seq.{take-append-seam}
-use Rattle.refusal.specs.Checks.{unless}
-use Rattle.refusal.specs.declared.Rule.the-variants.{OutputLength}
-use Rattle.refusal.specs.declared.Verdict.{Verdict}
+use lib.ListN.{length, take}
 use Rattle.refusal.specs.declared.Verdict.the-variants.{Accepted}
-use Rattle.refusal.proofs.Firsts.{first-passed}
 use Rattle.book.specs.declared.Book.{Book}
 use Rattle.book.specs.Entries.{BookEntries, bookEntries, SameBook}
 use Rattle.book.specs.Rules.{bookVerdict}
 use Rattle.book.specs.Room.{roomOf}
+use Rattle.forms.specs.Shape.{TextOf}
 use Rattle.booktext.specs.BookText.{bookText}
 use Rattle.booktext.specs.Record.{bookRecord}
+use Rattle.booktext.specs.WellFormed.{WellFormedBook}
 use Rattle.booktext.specs.Arrays.{Arrays}
 use Rattle.booktext.proofs.Accepted.{well-formed, same-record}
 use Rattle.booktext.proofs.Records.{entries-of-record, record-arrays}
@@ -26,6 +22,8 @@ use Rattle.printer.specs.Written.{written}
 use Rattle.reader.specs.declared.BookRead.{BookRead}
 use Rattle.reader.specs.Reading.{readOf}
 use Rattle.reader.proofs.Answers.{read-text, accepted-answer}
+use Rattle.output.specs.Writing.{writingVerdict, writtenOf, outputAfter}
+use Rattle.output.proofs.Answers.{accepted-before, text-written as written-text}
 use Rattle.writer.specs.Writing.{textOf, writeVerdict, writeOf, outputOf}
 use Rattle.roundtrip.proofs.Reading.{ReadAs, accepted-as}
 
@@ -53,17 +51,12 @@ module _ (b : Book) (arrays : Arrays b) (accepted : bookVerdict (bookEntries b) 
 
 -- what is known of a record that was written
 module _ (b : Book) (out : List ℕ) (accepted : writeVerdict b (length out) ≡ Accepted) where
-  abbrev fits : Verdict
-  fits = unless (leb (length (textOf b)) (length out)) OutputLength (length (textOf b))
-
   pub book-written : bookVerdict (bookEntries b) ≡ Accepted
-  unfolding writeVerdict
-  book-written = first-passed (bookVerdict (bookEntries b)) (fits ∷ []) accepted
+  book-written = accepted-before (bookVerdict (bookEntries b)) (textOf b) out accepted
 
   -- the bytes written, as many as writing answers, are the text
   pub text-written : take (writeOf b (length out) .bytes) (outputOf b out) ≡ textOf b
-  unfolding writeOf outputOf written
-  text-written = rw accepted (take-append-seam (textOf b) (drop (0 + length (textOf b)) out))
+  text-written = written-text (bookVerdict (bookEntries b)) (textOf b) out accepted
 
 -- reading what was written gives the same book
 pub read-written : (b : Book) (out : List ℕ) → Arrays b → writeVerdict b (length out) ≡ Accepted
@@ -87,7 +80,10 @@ module _ (t : List ℕ) (accepted : readOf t .verdict ≡ Accepted) where
   entries-are : bookEntries (readOf t .book) ≡ meant
   entries-are = ap bookEntries book-is ∙ entries-of-record meant (read-as .text .well-formed) (read-as .accepted)
 
-  -- it is the text of the book that is read
+  -- it is the text of the book that is read, which is of the shape
+  pub text-read : TextOf WellFormedBook bookText t (bookEntries (readOf t .book))
+  text-read = subst (TextOf WellFormedBook bookText t) (sym entries-are) (read-as .text)
+
   pub same-text : textOf (readOf t .book) ≡ t
   same-text = ap bookText entries-are ∙ sym (read-as .text .is)
 
@@ -102,7 +98,7 @@ module _ (t : List ℕ) (accepted : readOf t .verdict ≡ Accepted) where
   -- writing what was read gives the same text, where the output has room for it
   pub written-read : (out : List ℕ) → length t ≤ length out
       → (writeOf (readOf t .book) (length out) ≡ record { verdict = Accepted; bytes = length t }) × (outputOf (readOf t .book) out ≡ written out 0 t)
-  unfolding writeVerdict writeOf outputOf
+  unfolding writingVerdict writtenOf outputAfter
   written-read out h = rw (book-accepted, same-text, le-leb (length t) (length out) h) (refl, refl)
 
   pub arrays-read : Arrays (readOf t .book)

@@ -25,16 +25,16 @@ use Rattle.reader.specs.Reading.{refusedAnswer, bookAnswer, readOf}
 use Rattle.reader.proofs.Answers.{answered, any-reading, read-long, read-other, accepted-answer}
 
 -- What a text of at most 4,096 bytes is answered by; any other is refused by its length.
-data Answered (t : List ℕ) : Type 0 where
-  by-length : readOf t ≡ refusedAnswer TextLength 4096 → Answered t
+pub data Answered (t : List ℕ) : Type 0 where
+  by-length : 4096 < length t → readOf t ≡ refusedAnswer TextLength 4096 → Answered t
   by-reading : length t ≤ 4096 → (x : Reading WellFormedBook bookText t) → readOf t ≡ answered t x → Answered t
 
-read-answered : (t : List ℕ) → Answered t
+pub read-answered : (t : List ℕ) → Answered t
 read-answered t = go (leb (length t) 4096) refl
   where
     go : (x : Bool) → leb (length t) 4096 ≡ x → Answered t
     go true q = let h = leb-true (length t) 4096 q in by-reading h (book-reading t) (sym (any-reading t h (book-reading t)))
-    go false q = by-length (sym (read-long t (leb-false (length t) 4096 q)))
+    go false q = let h = leb-false (length t) 4096 q in by-length h (sym (read-long t h))
 
 verdict-of : {r s : BookRead} → r ≡ s → r .verdict ≡ s .verdict
 verdict-of e = ap (λ (r : BookRead). r .verdict) e
@@ -51,7 +51,7 @@ unfolding answer bookAnswer
 accepted-as t e = go (read-answered t)
   where
     go : Answered t → (b : BookEntries) × ReadAs t b
-    go (by-length q) = refused-not (sym (verdict-of q) ∙ e)
+    go (by-length h q) = refused-not (sym (verdict-of q) ∙ e)
     go (by-reading h (of-shape b it) q) = let f = sym (verdict-of q) ∙ e in (b, record { short = h; text = it; accepted = f; read = q ∙ accepted-answer b f })
     go (by-reading h (not-of-shape n none it) q) = refused-not (sym (verdict-of q) ∙ e)
 
@@ -73,7 +73,7 @@ refused-place t n e = go (read-answered t)
     same m i = cc
 
     go : Answered t → NotOfShape t n
-    go (by-length q) = absurd (omega (arith, ap numberOf (sym (verdict-of q) ∙ e)))
+    go (by-length h q) = absurd (omega (arith, ap numberOf (sym (verdict-of q) ∙ e)))
     go (by-reading h (of-shape b it) q) = absurd (not-shape (bookEntries (bookRecord b)) n (sym (verdict-of q) ∙ e))
     go (by-reading h (not-of-shape m none it) q) =
         record { short = h; no-book = none; longest = subst (Longest WellFormedBook bookText t) (same m (sym (verdict-of q) ∙ e)) it }

@@ -1,6 +1,6 @@
 // The answers of the entries on texts, as lines of standard output.
+use output::TextWritten;
 use refusal::Verdict;
-use writer::BookWritten;
 
 // The first n bytes.
 pub fn first(t: &[u8], n: u64) {
@@ -20,7 +20,7 @@ pub fn cut(n: u64, verdict: Verdict) {
     report::text(b"\n");
 }
 
-pub fn written(name: &[u8], w: BookWritten) {
+pub fn written(name: &[u8], w: TextWritten) {
     report::text(name);
     report::text(b": ");
     let verdict = w.verdict;

@@ -1,4 +1,2 @@
-pub mod Signs
 pub mod Sizes
 pub mod Parts
-pub mod Answers

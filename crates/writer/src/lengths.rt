@@ -3,7 +3,6 @@
 ghost use mathlib.Core.Path.{_≡_};
 ghost use Prim.Native.Nat.{_≤_};
 ghost use lib.ListN.{length};
-ghost use Rattle.forms.specs.Digits.{signedDigits};
 ghost use Rattle.book.specs.Entries.{bidEntries, bookEntries};
 ghost use Rattle.book.specs.Rules.{bookVerdict};
 ghost use Rattle.booktext.specs.BookText.{segmentText, bidText, bookText};
@@ -11,26 +10,13 @@ ghost use Rattle.refusal.specs.declared.Verdict.the-variants.{Accepted};
 use book::Bid;
 use book::Book;
 use book::Segment;
-use money::Cents;
-
-// The fixed price, with its sign.
-fn fixed_length(fixed: Cents) -> usize
-    ensures { λ r. ⌜ r ≡ length (signedDigits (fixed .0)) ⌝ }
-    ensures { λ r. ⌜ r ≤ 21 ⌝ }
-{
-    let size = printer::digit_count(money::magnitude(fixed));
-    if fixed.0 < 0 {
-        return 1 + size;
-    }
-    size
-}
 
 fn segment_length(s: Segment) -> usize
     ensures { λ r. ⌜ r ≡ length (segmentText s) ⌝ }
     ensures { λ r. ⌜ r ≤ 91 ⌝ }
 {
     let fixed = s.fixed;
-    let size = fixed_length(fixed);
+    let size = printer::cents_length(fixed);
     10
         + printer::digit_count(s.start.0)
         + printer::digit_count(s.end.0)

@@ -3,10 +3,7 @@
 ghost use mathlib.Core.Path.{_≡_};
 ghost use Prim.Native.Nat.{_+_, _≤_};
 ghost use lib.ListN.{length};
-ghost use mathlib.Core.List.{_++_};
 ghost use Rattle.lists.specs.Joined.{joined};
-ghost use Rattle.forms.specs.Bytes.{ascii};
-ghost use Rattle.forms.specs.Digits.{signedDigits};
 ghost use Rattle.book.specs.Entries.{bidEntries, bookEntries};
 ghost use Rattle.book.specs.Rules.{bookVerdict};
 ghost use Rattle.booktext.specs.BookText.{segmentText, bidText, bookText};
@@ -15,18 +12,6 @@ ghost use Rattle.refusal.specs.declared.Verdict.the-variants.{Accepted};
 use book::Bid;
 use book::Book;
 use book::Segment;
-use money::Cents;
-
-// The fixed price, with the space before it and its sign.
-fn write_fixed(out: &mut [u8], at: usize, fixed: Cents) -> usize
-    requires { ⌜ at + (1 + length (signedDigits (fixed .0))) ≤ length (now out) ⌝ }
-    ensures { λ r. ⌜ Wrote (now (out .entry)) at (ascii " " ++ signedDigits (fixed .0)) (now (out .exit)) r ⌝ }
-{
-    if fixed.0 < 0 {
-        return printer::write_number(out, at, b" -", money::magnitude(fixed));
-    }
-    printer::write_number(out, at, b" ", money::magnitude(fixed))
-}
 
 fn write_segment(out: &mut [u8], at: usize, s: Segment) -> usize
     requires { ⌜ at + length (segmentText s) ≤ length (now out) ⌝ }
@@ -36,7 +21,7 @@ fn write_segment(out: &mut [u8], at: usize, s: Segment) -> usize
     let end = printer::write_number(out, start, b" ", s.end.0);
     let unit = printer::write_number(out, end, b" ", s.unit.0);
     let fixed = s.fixed;
-    let close = write_fixed(out, unit, fixed);
+    let close = printer::write_cents(out, unit, fixed);
     printer::write_word(out, close, b")")
 }
 

@@ -1,7 +1,10 @@
 use native.Mathlib.Omega.{arith}
 use mathlib.Core.Path.{sym, _∙_}
 use borrow.Author.Needs.{needs}
-use Rattle.writer.proofs.Answers.{no-book, too-short, in-full}
+use Rattle.output.proofs.Answers.{refused-before, too-short, in-full}
+use Rattle.book.specs.Entries.{bookEntries}
+use Rattle.book.specs.Rules.{bookVerdict}
+use Rattle.writer.specs.Writing.{textOf}
 use Rattle.writer.proofs.write.Statement.{statement}
 use Rattle.writer.proofs.write.Tie as tie
 
@@ -16,7 +19,7 @@ returns c =
     let check = c .before .before .check in
     let a = c .before .before .before .before .args in
     let told = c .enum-told .given in
-    no-book (a .book) (a .out .now) (check .result) (check .ensures) (told .0 .0) (told .0 .1 .0) (told .1)
+    refused-before (bookVerdict (bookEntries (a .book))) (textOf (a .book)) (a .out .now) (check .result) (check .ensures) (told .0 .0) (told .0 .1 .0) (told .1)
 
 enum-told-2 : tie.Need-enum-told-2
 enum-told-2 c = search needs
@@ -30,7 +33,7 @@ returns-2 c =
     let told = c .before .before in
     let check = told .before .before .check in
     let a = told .before .before .before .before .args in
-    too-short (a .book) (a .out .now) (check .result) (check .ensures) (told .enum-told2 .given .1) (size .result) (size .ensures)
+    too-short (bookVerdict (bookEntries (a .book))) (textOf (a .book)) (a .out .now) (check .result) (check .ensures) (told .enum-told2 .given .1) (size .result) (size .ensures)
     (omega (arith, c .if1 .taken))
 
 write-book-requires : tie.Need-write-book-requires
@@ -51,7 +54,7 @@ returns-3 c =
     let told = fits .before .before in
     let check = told .before .before .check in
     let a = told .before .before .before .before .args in
-    in-full (a .book) (a .out .now) (check .result) (check .ensures) (told .enum-told2 .given .1) (size .result) (size .ensures)
+    in-full (bookVerdict (bookEntries (a .book))) (textOf (a .book)) (a .out .now) (check .result) (check .ensures) (told .enum-told2 .given .1) (size .result) (size .ensures)
     (fits .if1 .left) (write .last .0) (write .ensures .1)
 
 pub write-spec : {M : Type 1} → statement M

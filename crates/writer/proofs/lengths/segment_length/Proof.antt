@@ -4,8 +4,8 @@ use Rattle.writer.proofs.Sizes.{segment-size}
 use Rattle.writer.proofs.lengths.segment_length.Statement.{statement}
 use Rattle.writer.proofs.lengths.segment_length.Tie as tie
 
-fixed-length-requires : tie.Need-fixed-length-requires
-fixed-length-requires c κs = search needs
+cents-length-requires : tie.Need-cents-length-requires
+cents-length-requires c κs = search needs
 
 digit-count-requires : tie.Need-digit-count-requires
 digit-count-requires c κs = search needs
@@ -37,7 +37,7 @@ pub segment-length-spec : {M : Type 1} → statement M
 segment-length-spec =
     tie.close
     (tie.spec
-    fixed-length-requires
+    cents-length-requires
     digit-count-requires
     add-result
     digit-count-requires-2

@@ -30,8 +30,8 @@ write-number-requires-3 c κs =
     let s = w₁ .before .before .before .before in
     omega (arith, segment-size (s .args .s), s .pre, w₁ .write-number, w₂ .write-number2)
 
-write-fixed-requires : tie.Need-write-fixed-requires
-write-fixed-requires c κs =
+write-cents-requires : tie.Need-write-cents-requires
+write-cents-requires c κs =
     let w₃ = c .before .before .before .before in
     let w₂ = w₃ .before .before .before .before .before in
     let w₁ = w₂ .before .before .before .before .before in
@@ -48,7 +48,7 @@ write-word-requires c κs =
     let w₂ = w₃ .before .before .before .before .before in
     let w₁ = w₂ .before .before .before .before .before in
     let s = w₁ .before .before .before .before in
-    omega (arith, segment-size (s .args .s), s .pre, w₁ .write-number, w₂ .write-number2, w₃ .write-number3, w₄ .write-fixed)
+    omega (arith, segment-size (s .args .s), s .pre, w₁ .write-number, w₂ .write-number2, w₃ .write-number3, w₄ .write-cents)
 
 same-length : tie.Need-same-length
 same-length c = search needs
@@ -64,7 +64,7 @@ returns c =
     let a = w₁ .write-number in
     let b = w₂ .write-number2 in
     let d = w₃ .write-number3 in
-    let e = w₄ .write-fixed in
+    let e = w₄ .write-cents in
     let f = w₅ .write-word in
     wrote-segment
     (s .args .out .now)
@@ -97,7 +97,7 @@ write-segment-spec =
     write-number-requires-2
     slice-aggregate-write-number-3
     write-number-requires-3
-    write-fixed-requires
+    write-cents-requires
     slice-aggregate-write-word
     write-word-requires
     same-length

@@ -8,23 +8,23 @@ use mir.Syntax.{w64}
 use mir.Val.{SFits}
 use Rattle.forms.specs.Bytes.{ascii}
 use Rattle.forms.specs.Digits.{digits, signedDigits}
 use Rattle.printer.proofs.Written.{wrote-as}
-use Rattle.writer.proofs.Signs.{negative-digits, plain-digits}
-use Rattle.writer.proofs.lines.write_fixed.Statement.{statement}
-use Rattle.writer.proofs.lines.write_fixed.Tie as tie
+use Rattle.printer.proofs.Signs.{negative-digits, plain-digits}
+use Rattle.printer.proofs.cents.write_cents.Statement.{statement}
+use Rattle.printer.proofs.cents.write_cents.Tie as tie
 
-fits : (c : tie.After-struct-told) → SFits w64 (c .before .before .before .args .fixed .0)
+fits : (c : tie.After-struct-told) → SFits w64 (c .before .before .before .args .price .0)
 fits c = search needs
 
 -- the digits written are those of the price
 with-sign : (c : tie.After-magnitude)
-    → signedDigits (c .before .before .before .before .before .before .before .args .fixed .0) ≡ ascii "-" ++ digits (c .magnitude .result)
+    → signedDigits (c .before .before .before .before .before .before .before .args .price .0) ≡ ascii "-" ++ digits (c .magnitude .result)
 with-sign c =
     let t = c .before .before .before in
     negative-digits _ (fits (t .before)) (t .if1 .taken) ∙ ap (λ (n : ℕ). ascii "-" ++ digits n) (sym (c .magnitude .ensures))
 
 without-sign : (c : tie.After-magnitude2)
-    → signedDigits (c .before .before .before .before .before .before .before .args .fixed .0) ≡ digits (c .magnitude2 .result)
+    → signedDigits (c .before .before .before .before .before .before .before .args .price .0) ≡ digits (c .magnitude2 .result)
 without-sign c =
     let t = c .before .before .before in
     plain-digits _ (fits (t .before)) (t .if1 .left) ∙ ap digits (sym (c .magnitude2 .ensures))
@@ -47,7 +47,7 @@ returns c =
     let a = m .before .before .before .before .before .before .before .args in
     let w = c .before .before .write-number in
     let same = ap (λ (l : List ℕ). ascii " " ++ l) (sym (with-sign m)) in
-    wrote-as (a .out .now) (a .at) (ascii " -" ++ digits (m .magnitude .result)) (ascii " " ++ signedDigits (a .fixed .0)) (w .last .0)
+    wrote-as (a .out .now) (a .at) (ascii " -" ++ digits (m .magnitude .result)) (ascii " " ++ signedDigits (a .price .0)) (w .last .0)
     (w .result) same (w .ensures)
 
 slice-aggregate-write-number-2 : tie.Need-slice-aggregate-write-number-2
@@ -68,11 +68,11 @@ returns-2 c =
     let a = m .before .before .before .before .before .before .before .args in
     let w = c .before .before .write-number2 in
     let same = ap (λ (l : List ℕ). ascii " " ++ l) (sym (without-sign m)) in
-    wrote-as (a .out .now) (a .at) (ascii " " ++ digits (m .magnitude2 .result)) (ascii " " ++ signedDigits (a .fixed .0)) (w .last .0)
+    wrote-as (a .out .now) (a .at) (ascii " " ++ digits (m .magnitude2 .result)) (ascii " " ++ signedDigits (a .price .0)) (w .last .0)
     (w .result) same (w .ensures)
 
-pub write-fixed-spec : {M : Type 1} → statement M
-write-fixed-spec =
+pub write-cents-spec : {M : Type 1} → statement M
+write-cents-spec =
     tie.close
     (tie.spec
     slice-aggregate-write-number

@@ -1,0 +1,111 @@
+// The entries for C. Each takes the bytes of a bid book, gives the number of the refusal (0 where nothing is refused), and puts its
+// place and the other results behind references. They are thin: what they answer is worked out in `tender`.
+ghost use mathlib.Core.Path.{_≡_};
+ghost use mathlib.Core.Bool.{cond};
+ghost use lib.ListN.{length};
+ghost use Rattle.refusal.specs.Number.{numberOf, placeOf};
+ghost use Rattle.tender.specs.FromText.{sheetWritten, sheetOutput, bookWritten, bookOutput, roomText, splitText};
+ghost use Rattle.boccelarch.specs.Numbers.{awardVerdict, awardTotal, awardCount, awardOutput};
+
+// An award as numbers. The module is private: what is pub in it serves this crate alone.
+mod numbers;
+
+// The award sheet of a book, and its length.
+#[no_mangle]
+pub extern "C" fn boccelarch_sheet(
+    text: &[u8],
+    out: &mut [u8],
+    place: &mut u64,
+    bytes: &mut u64,
+) -> u64
+    ensures { λ r. ⌜ r ≡ numberOf (sheetWritten (now (text .entry)) (length (now (out .entry))) .verdict) ⌝ }
+    ensures { λ _. ⌜ now (place .exit) ≡ placeOf (sheetWritten (now (text .entry)) (length (now (out .entry))) .verdict) ⌝ }
+    ensures { λ _. ⌜ now (bytes .exit) ≡ sheetWritten (now (text .entry)) (length (now (out .entry))) .bytes ⌝ }
+    ensures { λ _. ⌜ now (out .exit) ≡ sheetOutput (now (text .entry)) (now (out .entry)) ⌝ }
+{
+    let written = tender::sheet(text, out);
+    let verdict = written.verdict;
+    *place = refusal::place(verdict);
+    *bytes = written.bytes;
+    refusal::number(verdict)
+}
+
+// The book written out again, and its length.
+#[no_mangle]
+pub extern "C" fn boccelarch_write(
+    text: &[u8],
+    out: &mut [u8],
+    place: &mut u64,
+    bytes: &mut u64,
+) -> u64
+    ensures { λ r. ⌜ r ≡ numberOf (bookWritten (now (text .entry)) (length (now (out .entry))) .verdict) ⌝ }
+    ensures { λ _. ⌜ now (place .exit) ≡ placeOf (bookWritten (now (text .entry)) (length (now (out .entry))) .verdict) ⌝ }
+    ensures { λ _. ⌜ now (bytes .exit) ≡ bookWritten (now (text .entry)) (length (now (out .entry))) .bytes ⌝ }
+    ensures { λ _. ⌜ now (out .exit) ≡ bookOutput (now (text .entry)) (now (out .entry)) ⌝ }
+{
+    let written = tender::write(text, out);
+    let verdict = written.verdict;
+    *place = refusal::place(verdict);
+    *bytes = written.bytes;
+    refusal::number(verdict)
+}
+
+// The room figure.
+#[no_mangle]
+pub extern "C" fn boccelarch_room(text: &[u8], place: &mut u64, bytes: &mut u64) -> u64
+    ensures { λ r. ⌜ r ≡ numberOf (roomText (now (text .entry)) .verdict) ⌝ }
+    ensures { λ _. ⌜ now (place .exit) ≡ placeOf (roomText (now (text .entry)) .verdict) ⌝ }
+    ensures { λ _. ⌜ now (bytes .exit) ≡ roomText (now (text .entry)) .bytes ⌝ }
+{
+    let figure = tender::room(text);
+    let verdict = figure.verdict;
+    *place = refusal::place(verdict);
+    *bytes = figure.bytes;
+    refusal::number(verdict)
+}
+
+// The price of a proposed split, one quantity for each bid, and 1 if its quantities add up to the demand, else 0.
+#[no_mangle]
+pub extern "C" fn boccelarch_split(
+    text: &[u8],
+    quantities: &[u64],
+    place: &mut u64,
+    price: &mut i64,
+    meets: &mut u64,
+) -> u64
+    ensures { λ r. ⌜ r ≡ numberOf (splitText (now (text .entry)) (now (quantities .entry)) .verdict) ⌝ }
+    ensures { λ _. ⌜ now (place .exit) ≡ placeOf (splitText (now (text .entry)) (now (quantities .entry)) .verdict) ⌝ }
+    ensures { λ _. ⌜ now (price .exit) ≡ splitText (now (text .entry)) (now (quantities .entry)) .price .0 ⌝ }
+    ensures { λ _. ⌜ now (meets .exit) ≡ cond (splitText (now (text .entry)) (now (quantities .entry)) .meets) 1 0 ⌝ }
+{
+    let answer = tender::price_split(text, quantities);
+    let verdict = answer.verdict;
+    *place = refusal::place(verdict);
+    let cents = answer.price.0;
+    *price = cents;
+    *meets = answer.meets as u64;
+    refusal::number(verdict)
+}
+
+// The award as numbers: its total, how many bids there are, and seven numbers for each (`rowNumbers`).
+#[no_mangle]
+pub extern "C" fn boccelarch_award(
+    text: &[u8],
+    rows: &mut [u64],
+    place: &mut u64,
+    total: &mut u64,
+    count: &mut u64,
+) -> u64
+    ensures { λ r. ⌜ r ≡ numberOf (awardVerdict (now (text .entry)) (length (now (rows .entry)))) ⌝ }
+    ensures { λ _. ⌜ now (place .exit) ≡ placeOf (awardVerdict (now (text .entry)) (length (now (rows .entry)))) ⌝ }
+    ensures { λ _. ⌜ now (total .exit) ≡ awardTotal (now (text .entry)) (length (now (rows .entry))) ⌝ }
+    ensures { λ _. ⌜ now (count .exit) ≡ awardCount (now (text .entry)) (length (now (rows .entry))) ⌝ }
+    ensures { λ _. ⌜ now (rows .exit) ≡ awardOutput (now (text .entry)) (now (rows .entry)) ⌝ }
+{
+    let answer = numbers::award(text, rows);
+    let verdict = answer.verdict;
+    *place = refusal::place(verdict);
+    *total = answer.total;
+    *count = answer.count;
+    refusal::number(verdict)
+}

@@ -1,0 +1,3 @@
+pub mod Whole
+pub mod OneSheet
+pub mod Fits

@@ -1,0 +1,2 @@
+pub mod TheAward
+pub mod Outcome

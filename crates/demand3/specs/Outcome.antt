@@ -1,0 +1,48 @@
+-- What a text gets, lent an output with the bytes `out`: one of six outcomes, in the order of the refusals. Each says what holds of the
+-- text, and then the answer and the bytes of the output.
+use Prim.Native.Nat.{ℕ, _≤_, _<_}
+use mathlib.Core.List.{List}
+use mathlib.Core.Path.{_≡_}
+use lib.ListN.{length}
+use Rattle.refusal.specs.declared.Rule.{Rule}
+use Rattle.refusal.specs.declared.Rule.the-variants.{TextLength, Shape, NotCovered, OutputLength}
+use Rattle.refusal.specs.declared.Verdict.the-variants.{Accepted, Refused}
+use Rattle.book.specs.Entries.{BookEntries, bookEntries}
+use Rattle.book.specs.Rules.{bookVerdict}
+use Rattle.forms.specs.Shape.{TextOf}
+use Rattle.booktext.specs.BookText.{bookText}
+use Rattle.booktext.specs.WellFormed.{WellFormedBook}
+use Rattle.booktext.specs.Record.{bookRecord}
+use Rattle.printer.specs.Written.{written}
+use Rattle.roundtrip.proofs.Reading.{NotOfShape}
+use Rattle.award.specs.declared.Award.{Award}
+use Rattle.sheettext.specs.Sheet.{sheetText}
+use Rattle.cleared.specs.OfBook.{DivisionOf}
+use Rattle.tender.specs.FromText.{sheetWritten, sheetOutput}
+use Rattle.demand3.specs.TheAward.{TheAward}
+
+-- t is the text of the accepted book b
+pub record AcceptedText (t : List ℕ) (b : BookEntries) : Type 0 where
+  pub short : length t ≤ 4096
+  pub text : TextOf WellFormedBook bookText t b
+  pub accepted : bookVerdict b ≡ Accepted
+
+module _ (t out : List ℕ) where
+  -- refused: no byte is written, and the output is unchanged
+  abbrev pub NoSheet : Rule → ℕ → Type 0
+  NoSheet rule place = (sheetWritten t (length out) ≡ record { verdict = Refused rule place; bytes = 0 }) × (sheetOutput t out ≡ out)
+
+  -- the sheet of the award, byte for byte, and what was past it
+  abbrev pub SheetOf : Award → Type 0
+  SheetOf a =
+      (sheetWritten t (length out) ≡ record { verdict = Accepted; bytes = length (sheetText a) }) × (sheetOutput t out ≡ written out 0 (sheetText a))
+
+  pub data Outcome : Type 0 where
+    too-long : 4096 < length t → NoSheet TextLength 4096 → Outcome
+    not-of-shape : (place : ℕ) → NotOfShape t place → NoSheet Shape place → Outcome
+    broken : (b : BookEntries) → length t ≤ 4096 → TextOf WellFormedBook bookText t b → (rule : Rule) (line : ℕ)
+        → bookVerdict (bookEntries (bookRecord b)) ≡ Refused rule line → NoSheet rule line → Outcome
+    not-covered : (b : BookEntries) → AcceptedText t b → ((rs : List ℕ) → DivisionOf b rs → ⊥) → NoSheet NotCovered 0 → Outcome
+    output-short : (b : BookEntries) → AcceptedText t b → (a : Award) → TheAward b a → length out < length (sheetText a)
+        → NoSheet OutputLength (length (sheetText a)) → Outcome
+    sheet : (b : BookEntries) → AcceptedText t b → (a : Award) → TheAward b a → length (sheetText a) ≤ length out → SheetOf a → Outcome

@@ -1,0 +1,123 @@
+use native.Mathlib.Omega.{arith}
+use borrow.Author.Needs.{needs}
+use Rattle.sheettext.proofs.Sizes.{row-size}
+use Rattle.sheet.proofs.Parts.{wrote-row}
+use Rattle.sheet.proofs.lines.write_row.Statement.{statement}
+use Rattle.sheet.proofs.lines.write_row.Tie as tie
+
+slice-aggregate-write-number : tie.Need-slice-aggregate-write-number
+slice-aggregate-write-number c = search needs
+
+write-number-requires : tie.Need-write-number-requires
+write-number-requires c κs =
+    let s = c .before .before .before .before in
+    omega (arith, row-size (s .args .row))
+
+slice-aggregate-write-number-2 : tie.Need-slice-aggregate-write-number-2
+slice-aggregate-write-number-2 c = search needs
+
+write-number-requires-2 : tie.Need-write-number-requires-2
+write-number-requires-2 c κs =
+    let w₁ = c .before .before .before .before in
+    let s = w₁ .before .before .before .before .before in
+    omega (arith, row-size (s .args .row), s .pre, w₁ .write-number)
+
+slice-aggregate-write-number-3 : tie.Need-slice-aggregate-write-number-3
+slice-aggregate-write-number-3 c = search needs
+
+write-number-requires-3 : tie.Need-write-number-requires-3
+write-number-requires-3 c κs =
+    let w₂ = c .before .before .before .before in
+    let w₁ = w₂ .before .before .before .before .before in
+    let s = w₁ .before .before .before .before .before in
+    omega (arith, row-size (s .args .row), s .pre, w₁ .write-number, w₂ .write-number2)
+
+write-cents-requires : tie.Need-write-cents-requires
+write-cents-requires c κs =
+    let w₃ = c .before .before .before in
+    let w₂ = w₃ .before .before .before .before .before in
+    let w₁ = w₂ .before .before .before .before .before in
+    let s = w₁ .before .before .before .before .before in
+    omega (arith, row-size (s .args .row), s .pre, w₁ .write-number, w₂ .write-number2, w₃ .write-number3)
+
+slice-aggregate-write-number-4 : tie.Need-slice-aggregate-write-number-4
+slice-aggregate-write-number-4 c = search needs
+
+write-number-requires-4 : tie.Need-write-number-requires-4
+write-number-requires-4 c κs =
+    let w₄ = c .before .before .before .before in
+    let w₃ = w₄ .before .before .before .before in
+    let w₂ = w₃ .before .before .before .before .before in
+    let w₁ = w₂ .before .before .before .before .before in
+    let s = w₁ .before .before .before .before .before in
+    omega (arith, row-size (s .args .row), s .pre, w₁ .write-number, w₂ .write-number2, w₃ .write-number3, w₄ .write-cents)
+
+write-without-requires : tie.Need-write-without-requires
+write-without-requires c κs =
+    let w₅ = c .before .before .before in
+    let w₄ = w₅ .before .before .before .before .before in
+    let w₃ = w₄ .before .before .before .before in
+    let w₂ = w₃ .before .before .before .before .before in
+    let w₁ = w₂ .before .before .before .before .before in
+    let s = w₁ .before .before .before .before .before in
+    omega
+    (arith, row-size (s .args .row), s .pre, w₁ .write-number, w₂ .write-number2, w₃ .write-number3, w₄ .write-cents, w₅ .write-number4)
+
+same-length : tie.Need-same-length
+same-length c = search needs
+
+returns : tie.Need-returns
+returns c =
+    let w₆ = c .before .before in
+    let w₅ = w₆ .before .before .before .before in
+    let w₄ = w₅ .before .before .before .before .before in
+    let w₃ = w₄ .before .before .before .before in
+    let w₂ = w₃ .before .before .before .before .before in
+    let w₁ = w₂ .before .before .before .before .before in
+    let s = w₁ .before .before .before .before .before in
+    let a = w₁ .write-number in
+    let b = w₂ .write-number2 in
+    let d = w₃ .write-number3 in
+    let e = w₄ .write-cents in
+    let f = w₅ .write-number4 in
+    let g = w₆ .write-without in
+    wrote-row
+    (s .args .out .now)
+    (s .args .at)
+    (s .args .row)
+    (a .last .0)
+    (b .last .0)
+    (d .last .0)
+    (e .last .0)
+    (f .last .0)
+    (g .last .0)
+    (a .result)
+    (b .result)
+    (d .result)
+    (e .result)
+    (f .result)
+    (g .result)
+    (s .pre)
+    (a .ensures)
+    (b .ensures)
+    (d .ensures)
+    (e .ensures)
+    (f .ensures)
+    (g .ensures)
+
+pub write-row-spec : {M : Type 1} → statement M
+write-row-spec =
+    tie.close
+    (tie.spec
+    slice-aggregate-write-number
+    write-number-requires
+    slice-aggregate-write-number-2
+    write-number-requires-2
+    slice-aggregate-write-number-3
+    write-number-requires-3
+    write-cents-requires
+    slice-aggregate-write-number-4
+    write-number-requires-4
+    write-without-requires
+    same-length
+    returns)

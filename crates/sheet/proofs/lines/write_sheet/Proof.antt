@@ -1,0 +1,81 @@
+use native.Mathlib.Omega.{arith}
+use borrow.Author.Needs.{needs}
+use Rattle.sheettext.proofs.Sizes.{sheet-size}
+use Rattle.sheet.proofs.Parts.{wrote-sheet}
+use Rattle.sheet.proofs.lines.write_sheet.Statement.{statement}
+use Rattle.sheet.proofs.lines.write_sheet.Tie as tie
+
+slice-aggregate-write-number : tie.Need-slice-aggregate-write-number
+slice-aggregate-write-number c = search needs
+
+write-number-requires : tie.Need-write-number-requires
+write-number-requires c κs = omega (arith, sheet-size (c .before .before .before .before .args .award))
+
+write-cents-requires : tie.Need-write-cents-requires
+write-cents-requires c κs =
+    let w₁ = c .before .before .before in
+    let s = w₁ .before .before .before .before .before in
+    omega (arith, sheet-size (s .args .award), s .pre, w₁ .write-number)
+
+slice-aggregate-write-word : tie.Need-slice-aggregate-write-word
+slice-aggregate-write-word c = search needs
+
+write-word-requires : tie.Need-write-word-requires
+write-word-requires c κs =
+    let w₂ = c .before .before .before .before in
+    let w₁ = w₂ .before .before .before .before in
+    let s = w₁ .before .before .before .before .before in
+    omega (arith, sheet-size (s .args .award), s .pre, w₁ .write-number, w₂ .write-cents)
+
+write-rows-requires : tie.Need-write-rows-requires
+write-rows-requires c κs =
+    let w₃ = c .before .before .before in
+    let w₂ = w₃ .before .before .before .before .before in
+    let w₁ = w₂ .before .before .before .before in
+    let s = w₁ .before .before .before .before .before in
+    omega (arith, sheet-size (s .args .award), s .pre, w₁ .write-number, w₂ .write-cents, w₃ .write-word)
+
+same-length : tie.Need-same-length
+same-length c = search needs
+
+returns : tie.Need-returns
+returns c =
+    let w₄ = c .before .before in
+    let w₃ = w₄ .before .before .before .before in
+    let w₂ = w₃ .before .before .before .before .before in
+    let w₁ = w₂ .before .before .before .before in
+    let s = w₁ .before .before .before .before .before in
+    let a = w₁ .write-number in
+    let b = w₂ .write-cents in
+    let d = w₃ .write-word in
+    let e = w₄ .write-rows in
+    wrote-sheet
+    (s .args .out .now)
+    0
+    (s .args .award)
+    (a .last .0)
+    (b .last .0)
+    (d .last .0)
+    (e .last .0)
+    (a .result)
+    (b .result)
+    (d .result)
+    (e .result)
+    (omega (arith, s .pre))
+    (a .ensures)
+    (b .ensures)
+    (d .ensures)
+    (e .ensures)
+
+pub write-sheet-spec : {M : Type 1} → statement M
+write-sheet-spec =
+    tie.close
+    (tie.spec
+    slice-aggregate-write-number
+    write-number-requires
+    write-cents-requires
+    slice-aggregate-write-word
+    write-word-requires
+    write-rows-requires
+    same-length
+    returns)

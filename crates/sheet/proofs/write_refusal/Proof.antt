@@ -1,0 +1,101 @@
+use Prim.Native.Nat.{_+_}
+use native.Mathlib.Omega.{arith}
+use mathlib.Core.Path.{_≡_, refl, sym}
+use borrow.Author.Needs.{needs}
+use lib.ListN.{length}
+use Rattle.output.proofs.Answers.{too-short, in-full}
+use Rattle.refusal.specs.declared.Verdict.the-variants.{Accepted}
+use Rattle.sheettext.specs.Sheet.{refusalText}
+use Rattle.sheet.proofs.Refusals.{line-size, wrote-refusal}
+use Rattle.sheet.proofs.write_refusal.Statement.{statement}
+use Rattle.sheet.proofs.write_refusal.Tie as tie
+
+number-requires : tie.Need-number-requires
+number-requires c κs = search needs
+
+place-requires : tie.Need-place-requires
+place-requires c κs = search needs
+
+digit-count-requires : tie.Need-digit-count-requires
+digit-count-requires c κs = search needs
+
+add-needed : tie.Need-add-needed
+add-needed c = search needs
+
+digit-count-requires-2 : tie.Need-digit-count-requires-2
+digit-count-requires-2 c κs = search needs
+
+add-needed-2 : tie.Need-add-needed-2
+add-needed-2 c = search needs
+
+-- the verdict's line is as long as was measured
+measured : (c : tie.After-digit-count2)
+    → length (refusalText (c .before .before .before .before .before .args .verdict)) ≡ 12 + c .before .digit-count .result + c .digit-count2 .result
+measured c =
+    let place = c .before .before in
+    let number = place .before in
+    let line = line-size (number .before .before .args .verdict) _ _ (number .number .ensures) (place .place .ensures) in
+    omega arith
+
+returns : tie.Need-returns
+returns c =
+    let size = c .before in
+    let a = size .before .before .before .before .before .args in
+    too-short Accepted (refusalText (a .verdict)) (a .out .now) Accepted refl refl _ (sym (measured size)) (omega (arith, c .if1 .taken))
+
+slice-aggregate-write-number : tie.Need-slice-aggregate-write-number
+slice-aggregate-write-number c = search needs
+
+write-number-requires : tie.Need-write-number-requires
+write-number-requires c κs = search needs
+
+slice-aggregate-write-number-2 : tie.Need-slice-aggregate-write-number-2
+slice-aggregate-write-number-2 c = search needs
+
+write-number-requires-2 : tie.Need-write-number-requires-2
+write-number-requires-2 c κs = search needs
+
+slice-aggregate-write-word : tie.Need-slice-aggregate-write-word
+slice-aggregate-write-word c = search needs
+
+write-word-requires : tie.Need-write-word-requires
+write-word-requires c κs = search needs
+
+same-length : tie.Need-same-length
+same-length c = search needs
+
+returns-2 : tie.Need-returns-2
+returns-2 c =
+    let w₃ = c .before .before in
+    let w₂ = w₃ .before .before .before .before .before in
+    let w₁ = w₂ .before .before .before .before .before in
+    let fits = w₁ .before .before .before in
+    let size = fits .before in
+    let place = size .before .before in
+    let number = place .before in
+    let a = number .before .before .args in
+    let line =
+    wrote-refusal (a .verdict) _ _ (number .number .ensures) (place .place .ensures) (a .out .now) 0 _ _ _ _ _ _
+    (omega (arith, measured size, fits .if1 .left)) (w₁ .write-number .ensures) (w₂ .write-number2 .ensures) (w₃ .write-word .ensures) in
+    in-full Accepted (refusalText (a .verdict)) (a .out .now) Accepted refl refl _ (sym (measured size)) (omega (arith, fits .if1 .left))
+    (w₃ .write-word .last .0) (line .1)
+
+pub write-refusal-spec : {M : Type 1} → statement M
+write-refusal-spec =
+    tie.close
+    (tie.spec
+    number-requires
+    place-requires
+    digit-count-requires
+    add-needed
+    digit-count-requires-2
+    add-needed-2
+    returns
+    slice-aggregate-write-number
+    write-number-requires
+    slice-aggregate-write-number-2
+    write-number-requires-2
+    slice-aggregate-write-word
+    write-word-requires
+    same-length
+    returns-2)

@@ -1,0 +1,1 @@
+// The bytes of the award sheet. This crate has no code.

@@ -1,0 +1,84 @@
+/* The blanks tender for C: entries of libboccelarch.a (x86-64 Linux).
+ *
+ * Every function takes the bytes of a bid book, which need not end with a 0, and returns the number of the refusal, 0 where nothing is
+ * refused. It always sets *place to the place of the refusal (a line, a place in the text, or a length), 0 where nothing is refused, and
+ * every other number behind a pointer; with a refusal those are 0.
+ *
+ * With a refusal not one byte of a lent output is changed. Without one, exactly the bytes that are told are written at its beginning,
+ * and those past them stay as they were. No byte outside of what was lent is read or written.
+ *
+ * What a caller owes: each pointer is valid for the length beside it, also where that is 0 (so it is never NULL); uint64_t and int64_t are
+ * aligned; and what is written to (outputs, lists of rows, numbers behind pointers) overlaps nothing else that is passed. The functions
+ * keep no state, allocate nothing and may be called from several threads at once. They need less than 64 KB of stack.
+ *
+ * That they answer what docs/CLAIMS.md states is proved, for every text and every length.
+ */
+#ifndef BOCCELARCH_H
+#define BOCCELARCH_H
+
+#include <stddef.h>
+#include <stdint.h>
+
+#ifdef __cplusplus
+extern "C" {
+#endif
+
+/* The refusals, and what *place then is. Of several that are due, the first in this order is given: 1, 2, then the lines from the first, in
+ * a line 3 to 8; after that 11 for a split, 9 and then 10 for a sheet or an award, 10 for a book. */
+enum boccelarch_refusal {
+    BOCCELARCH_ACCEPTED = 0,
+    BOCCELARCH_TEXT_LENGTH = 1,    /* the text is longer than 4,096 bytes: 4096 */
+    BOCCELARCH_SHAPE = 2,          /* not of the shape: length of the longest beginning that some text of the shape also has */
+    BOCCELARCH_BID_COUNT = 3,      /* a ninth bid: the line */
+    BOCCELARCH_SEGMENT_COUNT = 4,  /* a seventh segment in a bid: the line */
+    BOCCELARCH_RANGE = 5,          /* a number outside its range: the line */
+    BOCCELARCH_BIDDER_ORDER = 6,   /* a bidder number not above the one before: the line */
+    BOCCELARCH_SEGMENT_ORDER = 7,  /* a start above its end, or not above the end before: the line */
+    BOCCELARCH_NEGATIVE_PRICE = 8, /* a negative price at a start: the line */
+    BOCCELARCH_NOT_COVERED = 9,    /* no allocation meets the demand exactly: 0 */
+    BOCCELARCH_OUTPUT_LENGTH = 10, /* the output is too short: the bytes needed */
+    BOCCELARCH_SPLIT_QUANTITY = 11 /* a quantity missing, neither 0 nor on a segment, or one too many: the line */
+};
+
+/* Enough for every sheet. */
+#define BOCCELARCH_SHEET_BYTES 600
+
+/* The award sheet, and its length in bytes. Refused by 1 to 10. */
+uint64_t boccelarch_sheet(const uint8_t *text, size_t text_length, uint8_t *out, size_t out_length, uint64_t *place, uint64_t *bytes);
+
+/* The book written out again, and its length in bytes: of an accepted text, the same text. Refused by 1 to 8 and 10. */
+uint64_t boccelarch_write(const uint8_t *text, size_t text_length, uint8_t *out, size_t out_length, uint64_t *place, uint64_t *bytes);
+
+/* The room figure, how many bytes the book's text takes at most: 17 + 11 for each bid + 45 for each segment. Refused by 1 to 8. */
+uint64_t boccelarch_room(const uint8_t *text, size_t text_length, uint64_t *place, uint64_t *bytes);
+
+/* The price in cents of a proposed split, one quantity for each bid in book order, whether or not the demand can be covered; *meets is 1
+ * if the quantities add up to the demand, else 0. Refused by 1 to 8 and 11. */
+uint64_t boccelarch_split(const uint8_t *text, size_t text_length, const uint64_t *quantities, size_t count, uint64_t *place, int64_t *price,
+                          uint64_t *meets);
+
+/* The award as numbers: a row of BOCCELARCH_COLUMNS numbers for each bid, in book order, so that the quantity of the third bid is
+ * rows[2 * BOCCELARCH_COLUMNS + BOCCELARCH_QUANTITY]; the total price in cents; and how many bids there are. rows_length counts numbers,
+ * not bytes. Refused by 1 to 10; 10 gives the bytes needed, 8 for each number. */
+enum boccelarch_column {
+    BOCCELARCH_BIDDER = 0,
+    BOCCELARCH_SEGMENT = 1,  /* 0 for a bidder who sells nothing */
+    BOCCELARCH_QUANTITY = 2, /* blanks */
+    BOCCELARCH_PRICE = 3,    /* cents */
+    BOCCELARCH_SAMPLE = 4,   /* blanks to sample */
+    BOCCELARCH_COVERED = 5,  /* 1 if the other bids cover the demand, 0 for `none` */
+    BOCCELARCH_WITHOUT = 6,  /* the total without this bidder in cents, 0 for `none` */
+    BOCCELARCH_COLUMNS = 7
+};
+
+/* Enough for every award. */
+#define BOCCELARCH_AWARD_NUMBERS (8 * BOCCELARCH_COLUMNS)
+
+uint64_t boccelarch_award(const uint8_t *text, size_t text_length, uint64_t *rows, size_t rows_length, uint64_t *place, uint64_t *total,
+                          uint64_t *count);
+
+#ifdef __cplusplus
+}
+#endif
+
+#endif
