@@ -89,4 +89,3 @@ award-up-to b bids few award is =
     let c = cost-up-to (b .bids) (award .quantities) bids (is .division .allocation) in
     let up-to : UpTo mostTotal (costOf (suppliesOf (b .bids)) (award .quantities)) = record { not-negative = c .not-negative; size = omega (arith, c .size) } in
     subst (UpTo mostTotal) (sym (is .cost)) up-to
-
