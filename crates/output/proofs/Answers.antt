@@ -38,6 +38,12 @@ module _ (before : Verdict) (text out : List ℕ) where
       unfolding writingVerdict writtenOf outputAfter
       in-full h exit e = rw (sym checked ∙ told, told, le-leb (length text) (length out) (omega arith), measured) (refl, e)
 
+  -- where there is room for the text, all of it is written
+  pub all-written : before ≡ Accepted → length text ≤ length out
+      → (writtenOf before text (length out) .bytes ≡ length text) × (take (length text) (outputAfter before text out) ≡ text)
+  unfolding writingVerdict writtenOf outputAfter written
+  all-written told h = rw (told, le-leb (length text) (length out) h) (refl, take-append-seam text (drop (0 + length text) out))
+
   module _ (accepted : writingVerdict before text (length out) ≡ Accepted) where
     abbrev fits : Verdict
     fits = unless (leb (length text) (length out)) OutputLength (length text)

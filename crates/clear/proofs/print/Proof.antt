@@ -4,14 +4,14 @@ use borrow.Author.Needs.{needs}
 use Rattle.clear.proofs.print.Statement.{statement}
 use Rattle.clear.proofs.print.Tie as tie
 
-slice-aggregate-print : tie.Need-slice-aggregate-print
-slice-aggregate-print c = search needs
+slice-aggregate-answer : tie.Need-slice-aggregate-answer
+slice-aggregate-answer c = search needs
 
-print-requires : tie.Need-print-requires
-print-requires c κs = search needs
+answer-requires : tie.Need-answer-requires
+answer-requires c κs = search needs
 
 array-share-prefix-out : tie.Need-array-share-prefix-out
-array-share-prefix-out c = search needs
+array-share-prefix-out c = c .before .answer .ensures .1
 
 slice-aggregate-put : tie.Need-slice-aggregate-put
 slice-aggregate-put c = sym (length-take-le _ _ (array-share-prefix-out (c .before)))
@@ -22,17 +22,13 @@ put-requires c κs = search needs
 returns : tie.Need-returns
 returns c = search needs
 
-returns-2 : tie.Need-returns-2
-returns-2 c = search needs
-
 pub print-spec : {M : Type 1} → statement M
 print-spec =
     tie.close
     (tie.spec
-    slice-aggregate-print
-    print-requires
+    slice-aggregate-answer
+    answer-requires
     array-share-prefix-out
     slice-aggregate-put
     put-requires
-    returns
-    returns-2)
+    returns)
