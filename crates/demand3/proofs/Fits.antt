@@ -1,4 +1,5 @@
--- How long a sheet can be: 600 bytes hold every sheet, and every line of a refusal. Assumes nothing.
+-- How large the numbers of a text's award can be, and how long its sheet: 600 bytes hold every sheet, and every line of a refusal.
+-- Assumes nothing.
 use Prim.Native.Nat.{ℕ, suc, _+_, _*_, _^_, _≤_, _<_}
 use native.Mathlib.Omega.{arith}
 use mathlib.Core.List.{List, map}
@@ -45,7 +46,7 @@ use Rattle.clearing.specs.declared.Clearing.{Clearing}
 use Rattle.clearing.specs.Clearing.{awardOfBook, clearOf}
 use Rattle.clearing.proofs.Answers.{no-division, division}
 use Rattle.cleared.specs.Awarded.{rowsOf, rowAt}
-use Rattle.cleared.proofs.Costs.{NotNegative, mostTotal}
+use Rattle.cleared.proofs.Costs.{NotNegative, UpTo, mostTotal}
 use Rattle.tender.specs.FromText.{bookOf, clearText, sheetWritten, printedText}
 use Rattle.demand3.proofs.Whole.{the-award}
 use Rattle.cleared.proofs.Amounts.{TotalUpTo, RowUpTo, demand-up-to, total-from-zero, rows-up-to}
@@ -162,6 +163,19 @@ module _ (t : List ℕ) where
     is : clearText t ≡ clearOf (bookOf t)
     unfolding clearText
     is = rw read
+
+    -- no amount of the award is negative, and its numbers have these bounds
+    pub total-up-to : UpTo mostTotal (clearText t .award .total .0)
+    total-up-to =
+        let e = ap (λ (c : Clearing). c .verdict) (sym is) ∙ accepted in
+        subst (λ (c : Clearing). UpTo mostTotal (c .award .total .0)) (sym is) (total-from-zero (readOf t .book) (arrays-read t read .bids) e)
+
+    pub row-up-to : (i : ℕ) → i < clearText t .award .count → RowUpTo (rowAt (clearText t .award) i)
+    row-up-to i h =
+        let held = arrays-read t read .bids in
+        let e = ap (λ (c : Clearing). c .verdict) (sym is) ∙ accepted in
+        let counted = ap (λ (c : Clearing). c .award .count) is ∙ count-is (readOf t .book) held e in
+        subst (λ (c : Clearing). RowUpTo (rowAt (c .award) i)) (sym is) (rows-up-to (readOf t .book) held e i (omega arith))
 
     pub sheet-fits : length (sheetText (clearText t .award)) ≤ 551
     sheet-fits =

@@ -1,6 +1,7 @@
 // What a test program got, as lines of standard output. The functions are pub for the test programs. They have no contract: what is
 // printed is compared with a file and not proved.
 use money::Cents;
+use output::TextWritten;
 use refusal::Verdict;
 
 pub fn text(t: &[u8]) {
@@ -34,5 +35,25 @@ pub fn verdict(name: &[u8], verdict: Verdict) {
     text(name);
     text(b": ");
     outcome(verdict);
+    text(b"\n");
+}
+
+// The first n bytes.
+pub fn first(t: &[u8], n: u64) {
+    let end = n as usize;
+    if t.len() < end {
+        return;
+    }
+    text(&t[..end]);
+}
+
+// What a writer answered.
+pub fn written(name: &[u8], w: TextWritten) {
+    text(name);
+    text(b": ");
+    let verdict = w.verdict;
+    outcome(verdict);
+    text(b", ");
+    number(w.bytes);
     text(b"\n");
 }

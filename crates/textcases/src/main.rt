@@ -32,7 +32,7 @@ fn again(text: &[u8], out: &mut [u8]) {
     let book = r.book;
     let w = writer::write(book, out);
     report::text(b"read and written:\n");
-    show::first(out, w.bytes);
+    report::first(out, w.bytes);
 }
 
 // Every proper beginning of a text is refused by rule 2 at its own length, or shown. Answers how many are refused so.
@@ -175,7 +175,7 @@ fn byte_of(first: &[u8], again: &[u8], i: usize) -> u8 {
 
 fn written(name: &[u8], book: Book, out: &mut [u8]) {
     let w = writer::write(book, out);
-    show::written(name, w);
+    report::written(name, w);
     report::text(out);
     report::text(b"\n");
 }

@@ -1,15 +1,5 @@
-// The answers of the entries on texts, as lines of standard output.
-use output::TextWritten;
+// The answer for a text that was cut, as a line of standard output.
 use refusal::Verdict;
-
-// The first n bytes.
-pub fn first(t: &[u8], n: u64) {
-    let end = n as usize;
-    if t.len() < end {
-        return;
-    }
-    report::text(&t[..end]);
-}
 
 // A text that was cut at a byte.
 pub fn cut(n: u64, verdict: Verdict) {
@@ -17,15 +7,5 @@ pub fn cut(n: u64, verdict: Verdict) {
     report::number(n);
     report::text(b": ");
     report::outcome(verdict);
-    report::text(b"\n");
-}
-
-pub fn written(name: &[u8], w: TextWritten) {
-    report::text(name);
-    report::text(b": ");
-    let verdict = w.verdict;
-    report::outcome(verdict);
-    report::text(b", ");
-    report::number(w.bytes);
     report::text(b"\n");
 }

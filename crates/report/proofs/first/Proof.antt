@@ -1,12 +1,9 @@
 use native.Mathlib.Omega.{arith}
-use mathlib.Core.Path.{_≡_, sym}
+use mathlib.Core.Path.{sym}
 use lib.Seq.{length-take-le}
 use borrow.Author.Needs.{needs}
-use Rattle.textcases.proofs.show.first.Statement.{statement}
-use Rattle.textcases.proofs.show.first.Tie as tie
-use Rattle.textcases.proofs.show.first.Reads as reads
-use Rattle.textcases.proofs.show.first.Lts as lts
-use Rattle.report.proofs.text.Reads as text-reads
+use Rattle.report.proofs.first.Statement.{statement}
+use Rattle.report.proofs.first.Tie as tie
 
 returns : tie.Need-returns
 returns c = search needs
