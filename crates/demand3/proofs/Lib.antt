@@ -1,3 +1,6 @@
+pub mod ClearedText
 pub mod Whole
 pub mod OneSheet
+pub mod Places
 pub mod Fits
+pub mod Prints

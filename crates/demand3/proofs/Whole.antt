@@ -1,17 +1,16 @@
 -- Demand 3 from the bytes of a text to the bytes of its sheet: every text and every output have one of the six outcomes. Assumes nothing.
-use Prim.Native.Nat.{ℕ, _≤_, _<_}
+use Prim.Native.Nat.{ℕ, _≤_}
 use mathlib.Core.Bool.{Bool, true, false}
 use mathlib.Core.List.{List}
 use mathlib.Core.Option.{Option, some, none}
-use mathlib.Core.Path.{_≡_, refl, sym, ap, _∙_, subst}
+use mathlib.Core.Path.{_≡_, refl, sym, ap, _∙_}
 use borrow.Author.Tests.{leb-true, leb-false}
 use lib.Dec.{leb}
-use lib.ListN.{length, getD}
+use lib.ListN.{length}
 use Rattle.refusal.specs.declared.Rule.{Rule}
 use Rattle.refusal.specs.declared.Rule.the-variants.{TextLength, Shape, NotCovered}
 use Rattle.refusal.specs.declared.Verdict.{Verdict}
 use Rattle.refusal.specs.declared.Verdict.the-variants.{Accepted, Refused}
-use Rattle.book.specs.declared.Book.{Book}
 use Rattle.book.specs.Entries.{BookEntries, bookEntries}
 use Rattle.book.specs.Rules.{bookVerdict}
 use Rattle.forms.specs.Shape.{TextOf, of-shape, not-of-shape, answer}
@@ -23,67 +22,22 @@ use Rattle.output.proofs.Answers.{refused-before, too-short, in-full}
 use Rattle.reader.specs.declared.BookRead.{BookRead}
 use Rattle.reader.specs.Reading.{bookAnswer, readOf}
 use Rattle.roundtrip.proofs.Reading.{Answered, by-length, by-reading, read-answered}
-use Rattle.roundtrip.proofs.Back.{text-read, book-accepted, arrays-read}
+use Rattle.roundtrip.proofs.Back.{book-accepted}
 use Rattle.divisions.specs.Award.{Priced}
-use Rattle.award.specs.declared.Award.{Award}
-use Rattle.award.specs.declared.Row.{Row}
-use Rattle.award.specs.Award.{rowOf}
 use Rattle.sheettext.specs.Sheet.{sheetText}
 use Rattle.clearing.specs.declared.Clearing.{Clearing}
-use Rattle.clearing.specs.Clearing.{awardOfBook, bookWithout, totalOf, awardRecord, clearOf}
+use Rattle.clearing.specs.Clearing.{awardOfBook, clearOf}
 use Rattle.clearing.proofs.Answers.{no-division, division}
-use Rattle.cleared.specs.Awarded.{rowAt, awarded}
-use Rattle.cleared.proofs.Answers.{cleared}
-use Rattle.cleared.proofs.Demand3.{award-of-book, no-award-of-book, no-other-cheaper, one-inside, row-is, without-is}
+use Rattle.cleared.proofs.Demand3.{no-award-of-book}
 use Rattle.tender.specs.FromText.{bookOf, clearText, sheetWritten, sheetOutput}
-use Rattle.demand3.specs.TheAward.{TotalOf, bidAt, TheAward}
+use Rattle.demand3.proofs.ClearedText.{cleared-book, accepted-text, was-read, its-award}
 use Rattle.demand3.specs.Outcome.{AcceptedText, NoSheet, Outcome, too-long, not-of-shape as other-shape, broken, not-covered, output-short, sheet}
 
--- what clearing answers for an accepted record is the award of demand 3
-
-total-of : (b : BookEntries) → TotalOf b (totalOf (awardOfBook b))
-total-of b = go (awardOfBook b) refl
-  where
-    go : (o : Option Priced) → awardOfBook b ≡ o → TotalOf b (totalOf o)
-    go none e = no-award-of-book b .0 e
-    go (some award) e = (award, award-of-book b award e, refl)
-
-module _ (book : Book) (held : length (book .bids) ≡ 8) (accepted : clearOf (bookEntries book) .verdict ≡ Accepted) where
-  abbrev b : BookEntries
-  b = bookEntries book
-
-  abbrev a : Award
-  a = clearOf b .award
-
-  -- its first line, and each row with the total that it shows
-  first-line : (a .demand .0 ≡ b .demand) × (a .count ≡ b .count)
-  unfolding awardRecord
-  first-line =
-      let e = cleared b accepted .answer in
-      (ap (λ (c : Clearing). c .award .demand .0) e, ap (λ (c : Clearing). c .award .count) e)
-
-  own-row : (i : ℕ) → i < b .count → rowAt a i ≡ rowOf (bidAt b i) (getD (awarded a .quantities) i 0) (rowAt a i .without)
-  unfolding rowOf
-  own-row i h =
-      let e = row-is book held accepted i h in
-      e ∙ ap (rowOf (bidAt b i) (getD (awarded a .quantities) i 0)) (sym (ap (λ (row : Row). row .without) e))
-
-  pub the-award : TheAward b a
-  the-award = record {
-    demand = first-line .0;
-    count = first-line .1;
-    best = no-other-cheaper book held accepted;
-    one-inside = one-inside book held accepted;
-    rows = own-row;
-    without = λ i h. subst (TotalOf (bookWithout i b)) (sym (without-is book held accepted i h)) (total-of (bookWithout i b));
-  }
-
--- The outcomes.
 module _ (t out : List ℕ) where
   abbrev text : List ℕ
   text = sheetText (clearText t .award)
 
-  no-sheet : (rule : Rule) (place : ℕ) → clearText t .verdict ≡ Refused rule place → NoSheet t out rule place
+  pub no-sheet : (rule : Rule) (place : ℕ) → clearText t .verdict ≡ Refused rule place → NoSheet t out rule place
   unfolding sheetWritten sheetOutput
   no-sheet rule place e =
       let (answer, exit) = refused-before (clearText t .verdict) text out (Refused rule place) (sym e) rule place refl in
@@ -93,51 +47,41 @@ module _ (t out : List ℕ) where
   unfolding clearText
   refused-text rule place e = no-sheet rule place (rw e)
 
-  module _ (short : length t ≤ 4096) (accepted : readOf t .verdict ≡ Accepted) where
-    cleared-book : clearText t ≡ clearOf (bookOf t)
-    unfolding clearText
-    cleared-book = rw accepted
+  covered : clearText t .verdict ≡ Accepted → Outcome t out
+  unfolding sheetWritten sheetOutput
+  covered e = go (leb (length text) (length out)) refl
+    where
+      its-text : AcceptedText t (bookOf t)
+      its-text = accepted-text t (was-read t e)
 
-    accepted-text : AcceptedText t (bookOf t)
-    accepted-text = record { short = short; text = text-read t accepted; accepted = book-accepted t accepted }
+      go : (x : Bool) → leb (length text) (length out) ≡ x → Outcome t out
+      go true q =
+          let h = leb-true (length text) (length out) q in
+          let (answer, exit) = in-full (clearText t .verdict) text out Accepted (sym e) refl (length text) refl h (written out 0 text) refl in
+          sheet (bookOf t) its-text (clearText t .award) (its-award t e) h (sym answer, sym exit)
+      go false q =
+          let h = leb-false (length text) (length out) q in
+          let (answer, exit) = too-short (clearText t .verdict) text out Accepted (sym e) refl (length text) refl h in
+          output-short (bookOf t) its-text (clearText t .award) (its-award t e) h (sym answer, sym exit)
 
-    with-award : clearText t .verdict ≡ Accepted → TheAward (bookOf t) (clearText t .award)
-    with-award e =
-        let e′ = ap (λ (c : Clearing). c .verdict) (sym cleared-book) ∙ e in
-        subst (λ (c : Clearing). TheAward (bookOf t) (c .award)) (sym cleared-book) (the-award (readOf t .book) (arrays-read t accepted .bids) e′)
+  accepted-outcome : readOf t .verdict ≡ Accepted → Outcome t out
+  accepted-outcome accepted = go (awardOfBook (bookOf t)) refl
+    where
+      told : (c : Clearing) → clearOf (bookOf t) ≡ c → clearText t .verdict ≡ c .verdict
+      told c e = ap (λ (x : Clearing). x .verdict) (cleared-book t accepted ∙ e)
 
-    covered : clearText t .verdict ≡ Accepted → Outcome t out
-    unfolding sheetWritten sheetOutput
-    covered e = go (leb (length text) (length out)) refl
-      where
-        go : (x : Bool) → leb (length text) (length out) ≡ x → Outcome t out
-        go true q =
-            let h = leb-true (length text) (length out) q in
-            let (answer, exit) = in-full (clearText t .verdict) text out Accepted (sym e) refl (length text) refl h (written out 0 text) refl in
-            sheet (bookOf t) accepted-text (clearText t .award) (with-award e) h (sym answer, sym exit)
-        go false q =
-            let h = leb-false (length text) (length out) q in
-            let (answer, exit) = too-short (clearText t .verdict) text out Accepted (sym e) refl (length text) refl h in
-            output-short (bookOf t) accepted-text (clearText t .award) (with-award e) h (sym answer, sym exit)
-
-    accepted-outcome : Outcome t out
-    accepted-outcome = go (awardOfBook (bookOf t)) refl
-      where
-        told : (c : Clearing) → clearOf (bookOf t) ≡ c → clearText t .verdict ≡ c .verdict
-        told c e = ap (λ (x : Clearing). x .verdict) (cleared-book ∙ e)
-
-        go : (o : Option Priced) → awardOfBook (bookOf t) ≡ o → Outcome t out
-        go none f =
-            not-covered (bookOf t) accepted-text (no-award-of-book (bookOf t) .0 f)
-            (no-sheet NotCovered 0 (told _ (no-division (bookOf t) (book-accepted t accepted) f)))
-        go (some award) f = covered (told _ (division (bookOf t) award (book-accepted t accepted) f))
+      go : (o : Option Priced) → awardOfBook (bookOf t) ≡ o → Outcome t out
+      go none f =
+          not-covered (bookOf t) (accepted-text t accepted) (no-award-of-book (bookOf t) .0 f)
+          (no-sheet NotCovered 0 (told _ (no-division (bookOf t) (book-accepted t accepted) f)))
+      go (some award) f = covered (told _ (division (bookOf t) award (book-accepted t accepted) f))
 
   of-shape-outcome : length t ≤ 4096 → (b : BookEntries) → TextOf WellFormedBook bookText t b → readOf t ≡ bookAnswer b → Outcome t out
   unfolding bookAnswer
   of-shape-outcome short b it e = go (bookVerdict (bookEntries (bookRecord b))) refl
     where
       go : (v : Verdict) → bookVerdict (bookEntries (bookRecord b)) ≡ v → Outcome t out
-      go Accepted f = accepted-outcome short (ap (λ (r : BookRead). r .verdict) e ∙ f)
+      go Accepted f = accepted-outcome (ap (λ (r : BookRead). r .verdict) e ∙ f)
       go (Refused rule line) f = broken b short it rule line f (refused-text rule line (ap (λ (r : BookRead). r .verdict) e ∙ f))
 
   -- Whatever bytes a text has: if it is accepted and covered, the bytes written are the sheet of the award that no other division beats, or

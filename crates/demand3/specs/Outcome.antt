@@ -16,9 +16,9 @@ use Rattle.booktext.specs.Record.{bookRecord}
 use Rattle.printer.specs.Written.{written}
 use Rattle.roundtrip.proofs.Reading.{NotOfShape}
 use Rattle.award.specs.declared.Award.{Award}
-use Rattle.sheettext.specs.Sheet.{sheetText}
+use Rattle.sheettext.specs.Sheet.{sheetText, refusalText}
 use Rattle.cleared.specs.OfBook.{DivisionOf}
-use Rattle.tender.specs.FromText.{sheetWritten, sheetOutput}
+use Rattle.tender.specs.FromText.{sheetWritten, sheetOutput, printedText}
 use Rattle.demand3.specs.TheAward.{TheAward}
 
 -- t is the text of the accepted book b
@@ -46,3 +46,8 @@ module _ (t out : List ℕ) where
     output-short : (b : BookEntries) → AcceptedText t b → (a : Award) → TheAward b a → length out < length (sheetText a)
         → NoSheet OutputLength (length (sheetText a)) → Outcome
     sheet : (b : BookEntries) → AcceptedText t b → (a : Award) → TheAward b a → length (sheetText a) ≤ length out → SheetOf a → Outcome
+
+-- What the program `clear` prints for a text: the sheet of the award, or the line of the refusal that the text gets in every output.
+pub data Printed (t : List ℕ) : Type 0 where
+  its-sheet : (b : BookEntries) → AcceptedText t b → (a : Award) → TheAward b a → printedText t ≡ sheetText a → Printed t
+  its-refusal : (rule : Rule) (place : ℕ) → ((out : List ℕ) → NoSheet t out rule place) → printedText t ≡ refusalText (Refused rule place) → Printed t

@@ -1,5 +1,6 @@
--- No two rules have the same number, so that number and place tell a verdict. Assumes nothing.
-use Prim.Native.Nat.{ℕ}
+-- No two rules have the same number, so that number and place tell a verdict; the numbers go to 11. Assumes nothing.
+use Prim.Native.Nat.{ℕ, _≤_}
+use native.Mathlib.Omega.{arith}
 use mathlib.Core.Bool.{cond}
 use mathlib.Core.Path.{_≡_, refl, sym, ap, _∙_}
 use lib.Dec.{eqb}
@@ -37,3 +38,16 @@ back SplitQuantity = refl
 
 pub distinct-numbers : (a b : Rule) → ruleNumber a ≡ ruleNumber b → a ≡ b
 distinct-numbers a b e = sym (back a) ∙ ap ruleOf e ∙ back b
+
+pub at-most-eleven : (rule : Rule) → ruleNumber rule ≤ 11
+at-most-eleven TextLength = omega arith
+at-most-eleven Shape = omega arith
+at-most-eleven BidCount = omega arith
+at-most-eleven SegmentCount = omega arith
+at-most-eleven Range = omega arith
+at-most-eleven BidderOrder = omega arith
+at-most-eleven SegmentOrder = omega arith
+at-most-eleven NegativePrice = omega arith
+at-most-eleven NotCovered = omega arith
+at-most-eleven OutputLength = omega arith
+at-most-eleven SplitQuantity = omega arith
