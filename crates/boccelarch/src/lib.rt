@@ -23,10 +23,10 @@ pub extern "C" fn boccelarch_sheet(
     ensures { λ _. ⌜ now (bytes .exit) ≡ sheetWritten (now (text .entry)) (length (now (out .entry))) .bytes ⌝ }
     ensures { λ _. ⌜ now (out .exit) ≡ sheetOutput (now (text .entry)) (now (out .entry)) ⌝ }
 {
-    let written = tender::sheet(text, out);
-    let verdict = written.verdict;
+    let sheet = tender::sheet(text, out);
+    let verdict = sheet.verdict;
     *place = refusal::place(verdict);
-    *bytes = written.bytes;
+    *bytes = sheet.bytes;
     refusal::number(verdict)
 }
 
@@ -43,10 +43,10 @@ pub extern "C" fn boccelarch_write(
     ensures { λ _. ⌜ now (bytes .exit) ≡ bookWritten (now (text .entry)) (length (now (out .entry))) .bytes ⌝ }
     ensures { λ _. ⌜ now (out .exit) ≡ bookOutput (now (text .entry)) (now (out .entry)) ⌝ }
 {
-    let written = tender::write(text, out);
-    let verdict = written.verdict;
+    let book = tender::write(text, out);
+    let verdict = book.verdict;
     *place = refusal::place(verdict);
-    *bytes = written.bytes;
+    *bytes = book.bytes;
     refusal::number(verdict)
 }
 

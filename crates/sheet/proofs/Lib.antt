@@ -1,3 +1,3 @@
 pub mod Rows
-pub mod Refusals
+pub mod RefusalLine
 pub mod Parts

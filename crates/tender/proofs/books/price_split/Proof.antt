@@ -4,8 +4,8 @@ use Rattle.book.specs.Entries.{BookEntries}
 use Rattle.split.specs.Split.{splitOf, refusedSplit}
 use Rattle.tender.specs.FromText.{splitText}
 use Rattle.tender.proofs.Answers.{text-refused, text-accepted}
-use Rattle.tender.proofs.price_split.Statement.{statement}
-use Rattle.tender.proofs.price_split.Tie as tie
+use Rattle.tender.proofs.books.price_split.Statement.{statement}
+use Rattle.tender.proofs.books.price_split.Tie as tie
 
 read-requires : tie.Need-read-requires
 read-requires c κs = search needs

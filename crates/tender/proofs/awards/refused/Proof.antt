@@ -2,8 +2,8 @@ use mathlib.Core.Path.{ap}
 use borrow.Author.Needs.{needs}
 use Rattle.award.specs.declared.Award.{Award}
 use Rattle.clearing.specs.declared.Clearing.{Clearing}
-use Rattle.tender.proofs.refused.Statement.{statement}
-use Rattle.tender.proofs.refused.Tie as tie
+use Rattle.tender.proofs.awards.refused.Statement.{statement}
+use Rattle.tender.proofs.awards.refused.Tie as tie
 
 no-award-requires : tie.Need-no-award-requires
 no-award-requires c κs = search needs

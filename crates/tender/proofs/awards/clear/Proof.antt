@@ -3,8 +3,8 @@ use borrow.Author.Needs.{needs}
 use Rattle.clearing.specs.Clearing.{clearOf, refusedClearing}
 use Rattle.tender.specs.FromText.{clearText}
 use Rattle.tender.proofs.Answers.{text-refused, text-accepted}
-use Rattle.tender.proofs.clear.Statement.{statement}
-use Rattle.tender.proofs.clear.Tie as tie
+use Rattle.tender.proofs.awards.clear.Statement.{statement}
+use Rattle.tender.proofs.awards.clear.Tie as tie
 
 read-requires : tie.Need-read-requires
 read-requires c κs = search needs

@@ -1,8 +1,8 @@
 use mathlib.Core.Path.{refl}
 use borrow.Author.Needs.{needs}
 use Rattle.tender.proofs.Answers.{same-answer, refusal-printed, sheet-printed}
-use Rattle.tender.proofs.print.Statement.{statement}
-use Rattle.tender.proofs.print.Tie as tie
+use Rattle.tender.proofs.prints.print.Statement.{statement}
+use Rattle.tender.proofs.prints.print.Tie as tie
 
 clear-requires : tie.Need-clear-requires
 clear-requires c κs = search needs

@@ -6,9 +6,9 @@ use lib.ListN.{length}
 use Rattle.output.proofs.Answers.{too-short, in-full}
 use Rattle.refusal.specs.declared.Verdict.the-variants.{Accepted}
 use Rattle.sheettext.specs.Sheet.{refusalText}
-use Rattle.sheet.proofs.Refusals.{line-size, wrote-refusal}
-use Rattle.sheet.proofs.write_refusal.Statement.{statement}
-use Rattle.sheet.proofs.write_refusal.Tie as tie
+use Rattle.sheet.proofs.RefusalLine.{line-size, wrote-refusal}
+use Rattle.sheet.proofs.refusals.write_refusal.Statement.{statement}
+use Rattle.sheet.proofs.refusals.write_refusal.Tie as tie
 
 number-requires : tie.Need-number-requires
 number-requires c κs = search needs

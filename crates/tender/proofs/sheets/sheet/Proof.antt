@@ -1,8 +1,8 @@
 use borrow.Author.Needs.{needs}
 use Rattle.tender.specs.FromText.{sheetWritten, sheetOutput}
 use Rattle.tender.proofs.Answers.{sheet-refused, sheet-written}
-use Rattle.tender.proofs.sheet.Statement.{statement}
-use Rattle.tender.proofs.sheet.Tie as tie
+use Rattle.tender.proofs.sheets.sheet.Statement.{statement}
+use Rattle.tender.proofs.sheets.sheet.Tie as tie
 
 clear-requires : tie.Need-clear-requires
 clear-requires c κs = search needs

@@ -5,8 +5,8 @@ use Rattle.book.specs.declared.RoomFigure.{RoomFigure}
 use Rattle.book.specs.Room.{roomOf}
 use Rattle.tender.specs.FromText.{roomText}
 use Rattle.tender.proofs.Answers.{text-refused, text-accepted}
-use Rattle.tender.proofs.room.Statement.{statement}
-use Rattle.tender.proofs.room.Tie as tie
+use Rattle.tender.proofs.books.room.Statement.{statement}
+use Rattle.tender.proofs.books.room.Tie as tie
 
 abbrev noRoom : Verdict → RoomFigure
 noRoom verdict = record { verdict = verdict; bytes = 0 }

@@ -1,8 +1,8 @@
 use borrow.Author.Needs.{needs}
 use Rattle.tender.specs.FromText.{bookWritten, bookOutput}
 use Rattle.tender.proofs.Answers.{book-refused, book-rewritten}
-use Rattle.tender.proofs.write.Statement.{statement}
-use Rattle.tender.proofs.write.Tie as tie
+use Rattle.tender.proofs.books.write.Statement.{statement}
+use Rattle.tender.proofs.books.write.Tie as tie
 
 read-requires : tie.Need-read-requires
 read-requires c κs = search needs
