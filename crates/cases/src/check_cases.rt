@@ -1,5 +1,4 @@
 // Records that are checked, and their room figures.
-use crate::show;
 use book::Bid;
 use book::Book;
 use money::Blanks;
@@ -148,11 +147,11 @@ fn first_line() {
 }
 
 fn rooms() {
-    show::room(
+    report::room(
         b"room of the book",
         bookrules::room(samplebooks::blanks(120)),
     );
-    show::room(
+    report::room(
         b"room with demand 0",
         bookrules::room(samplebooks::blanks(0)),
     );

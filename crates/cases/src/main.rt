@@ -3,7 +3,6 @@
 // The modules are private: what is pub in them serves this program alone.
 mod check_cases;
 mod sample_cases;
-mod show;
 mod split_cases;
 
 fn main() {

@@ -1,11 +1,10 @@
 // Proposed splits.
-use crate::show;
 use book::Book;
 use money::Blanks;
 
 fn of_three(name: &[u8], book: Book, a: u64, b: u64, c: u64) {
     let quantities = [a, b, c];
-    show::split(name, split::price_split(book, &quantities));
+    report::split(name, split::price_split(book, &quantities));
 }
 
 pub fn run() {
@@ -39,13 +38,13 @@ pub fn run() {
 fn lengths() {
     let book = samplebooks::blanks(120);
     let none: [u64; 0] = [];
-    show::split(b"split of no quantity", split::price_split(book, &none));
+    report::split(b"split of no quantity", split::price_split(book, &none));
     let two = [60, 60];
-    show::split(b"split 60 60", split::price_split(book, &two));
+    report::split(b"split 60 60", split::price_split(book, &two));
     let four = [60, 60, 0, 0];
-    show::split(b"split 60 60 0 0", split::price_split(book, &four));
+    report::split(b"split 60 60 0 0", split::price_split(book, &four));
     let early = [60, 10, 0, 0];
-    show::split(b"split 60 10 0 0", split::price_split(book, &early));
+    report::split(b"split 60 10 0 0", split::price_split(book, &early));
 }
 
 // A quantity between two segments is on none.
@@ -65,13 +64,13 @@ fn wide() {
     let mut book = samplebooks::book(12_000, 3, dear, samplebooks::bid8(), samplebooks::bid12());
     book.count = 1;
     let quantities = [12_000];
-    show::split(
+    report::split(
         b"split 12000 at 400000",
         split::price_split(book, &quantities),
     );
     let demand = Blanks(1);
     book.demand = demand;
-    show::split(
+    report::split(
         b"the same with demand 1",
         split::price_split(book, &quantities),
     );

@@ -8,7 +8,7 @@ use borrow.Author.Tests.{leb-true, leb-false}
 use lib.Dec.{leb}
 use lib.ListN.{length}
 use Rattle.refusal.specs.declared.Rule.{Rule}
-use Rattle.refusal.specs.declared.Rule.the-variants.{TextLength, Shape, NotCovered}
+use Rattle.refusal.specs.declared.Rule.the-variants.{TextLength, Shape, NotCovered, OutputLength}
 use Rattle.refusal.specs.declared.Verdict.{Verdict}
 use Rattle.refusal.specs.declared.Verdict.the-variants.{Accepted, Refused}
 use Rattle.book.specs.Entries.{BookEntries, bookEntries}
@@ -18,6 +18,7 @@ use Rattle.booktext.specs.BookText.{bookText}
 use Rattle.booktext.specs.WellFormed.{WellFormedBook}
 use Rattle.booktext.specs.Record.{bookRecord}
 use Rattle.printer.specs.Written.{written}
+use Rattle.output.specs.Writing.{notWritten, allWritten}
 use Rattle.output.proofs.Answers.{refused-before, too-short, in-full}
 use Rattle.reader.specs.declared.BookRead.{BookRead}
 use Rattle.reader.specs.Reading.{bookAnswer, readOf}
@@ -40,7 +41,7 @@ module _ (t out : List ℕ) where
   pub no-sheet : (rule : Rule) (place : ℕ) → clearText t .verdict ≡ Refused rule place → NoSheet t out rule place
   unfolding sheetWritten sheetOutput
   no-sheet rule place e =
-      let (answer, exit) = refused-before (clearText t .verdict) text out (Refused rule place) (sym e) rule place refl in
+      let (answer, exit) = refused-before (clearText t .verdict) text out (notWritten (Refused rule place)) (Refused rule place) refl (sym e) rule place refl in
       (sym answer, sym exit)
 
   refused-text : (rule : Rule) (place : ℕ) → readOf t .verdict ≡ Refused rule place → NoSheet t out rule place
@@ -57,11 +58,11 @@ module _ (t out : List ℕ) where
       go : (x : Bool) → leb (length text) (length out) ≡ x → Outcome t out
       go true q =
           let h = leb-true (length text) (length out) q in
-          let (answer, exit) = in-full (clearText t .verdict) text out Accepted (sym e) refl (length text) refl h (written out 0 text) refl in
+          let (answer, exit) = in-full (clearText t .verdict) text out e (length text) refl (allWritten (length text)) refl h (written out 0 text) refl in
           sheet (bookOf t) its-text (clearText t .award) (its-award t e) h (sym answer, sym exit)
       go false q =
           let h = leb-false (length text) (length out) q in
-          let (answer, exit) = too-short (clearText t .verdict) text out Accepted (sym e) refl (length text) refl h in
+          let (answer, exit) = too-short (clearText t .verdict) text out e (length text) refl (notWritten (Refused OutputLength (length text))) refl h in
           output-short (bookOf t) its-text (clearText t .award) (its-award t e) h (sym answer, sym exit)
 
   accepted-outcome : readOf t .verdict ≡ Accepted → Outcome t out

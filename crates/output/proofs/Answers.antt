@@ -14,7 +14,7 @@ use Rattle.refusal.specs.declared.Verdict.{Verdict}
 use Rattle.refusal.specs.declared.Verdict.the-variants.{Accepted, Refused}
 use Rattle.refusal.proofs.Firsts.{first-passed}
 use Rattle.printer.specs.Written.{written}
-use Rattle.output.specs.Writing.{writingVerdict, writtenOf, outputAfter}
+use Rattle.output.specs.Writing.{writingVerdict, writtenOf, outputAfter, notWritten, allWritten}
 use Rattle.output.specs.declared.TextWritten.{TextWritten}
 
 -- the answer and the output at exit are those that are stated
@@ -22,21 +22,20 @@ abbrev pub Answered : Verdict → List ℕ → List ℕ → TextWritten → List
 Answered before text out answer exit = (answer ≡ writtenOf before text (length out)) × (exit ≡ outputAfter before text out)
 
 module _ (before : Verdict) (text out : List ℕ) where
-  -- a verdict that is known to be the one before, and a length that is known to be the text's
-  module _ (verdict : Verdict) (checked : verdict ≡ before) where
-    pub refused-before : (rule : Rule) (place : ℕ) → verdict ≡ Refused rule place → Answered before text out (record { verdict = verdict; bytes = 0 }) out
+  -- an answer that is made beside a refusal, for too short an output, or for a text that was written
+  pub refused-before : (answer : TextWritten) (verdict : Verdict) → answer ≡ notWritten verdict → verdict ≡ before → (rule : Rule) (place : ℕ)
+      → verdict ≡ Refused rule place → Answered before text out answer out
+  unfolding writingVerdict writtenOf outputAfter
+  refused-before answer verdict made checked rule place told = rw (made, sym checked ∙ told, told) (refl, refl)
+
+  module _ (told : before ≡ Accepted) (needed : ℕ) (measured : needed ≡ length text) (answer : TextWritten) where
+    pub too-short : answer ≡ notWritten (Refused OutputLength needed) → length out < needed → Answered before text out answer out
     unfolding writingVerdict writtenOf outputAfter
-    refused-before rule place told = rw (sym checked ∙ told, told) (refl, refl)
+    too-short made h = rw (made, told, lt-leb (length text) (length out) (omega arith), measured) (refl, refl)
 
-    module _ (told : verdict ≡ Accepted) (needed : ℕ) (measured : needed ≡ length text) where
-      pub too-short : length out < needed → Answered before text out (record { verdict = Refused OutputLength needed; bytes = 0 }) out
-      unfolding writingVerdict writtenOf outputAfter
-      too-short h = rw (sym checked ∙ told, lt-leb (length text) (length out) (omega arith), measured) (refl, refl)
-
-      pub in-full : needed ≤ length out → (exit : List ℕ) → exit ≡ written out 0 text
-          → Answered before text out (record { verdict = verdict; bytes = needed }) exit
-      unfolding writingVerdict writtenOf outputAfter
-      in-full h exit e = rw (sym checked ∙ told, told, le-leb (length text) (length out) (omega arith), measured) (refl, e)
+    pub in-full : answer ≡ allWritten needed → needed ≤ length out → (exit : List ℕ) → exit ≡ written out 0 text → Answered before text out answer exit
+    unfolding writingVerdict writtenOf outputAfter
+    in-full made h exit e = rw (made, told, le-leb (length text) (length out) (omega arith), measured) (refl, e)
 
   -- where there is room for the text, all of it is written
   pub all-written : before ≡ Accepted → length text ≤ length out

@@ -6,6 +6,7 @@ use lib.ListN.{length}
 use Rattle.refusal.specs.Checks.{unless, firstOf, whenAccepted}
 use Rattle.refusal.specs.declared.Rule.the-variants.{OutputLength}
 use Rattle.refusal.specs.declared.Verdict.{Verdict}
+use Rattle.refusal.specs.declared.Verdict.the-variants.{Accepted}
 use Rattle.printer.specs.Written.{written}
 use Rattle.output.specs.declared.TextWritten.{TextWritten}
 
@@ -23,3 +24,11 @@ writtenOf before text room = record {
 -- the output: the text, and what was past it; unchanged with a refusal
 unfoldable pub outputAfter : Verdict → List ℕ → List ℕ → List ℕ
 outputAfter before text out = whenAccepted (writingVerdict before text (length out)) (written out 0 text) out
+
+-- For the contracts of the functions that make such an answer: beside a refusal, and where the whole text was written.
+
+abbrev pub notWritten : Verdict → TextWritten
+notWritten verdict = record { verdict = verdict; bytes = 0 }
+
+abbrev pub allWritten : ℕ → TextWritten
+allWritten length = record { verdict = Accepted; bytes = length }

@@ -13,8 +13,6 @@ mod refusals;
 
 use award::Award;
 use output::TextWritten;
-use refusal::Rule;
-use refusal::Verdict;
 pub use refusals::write_refusal;
 
 // Writes the sheet of any award at the beginning of the output. With a refusal, which can be 10 alone, the output is unchanged.
@@ -24,14 +22,8 @@ pub fn write(award: Award, out: &mut [u8]) -> TextWritten
 {
     let needed = lengths::sheet_length(award);
     if out.len() < needed {
-        return TextWritten {
-            verdict: Verdict::Refused(Rule::OutputLength, needed as u64),
-            bytes: 0,
-        };
+        return output::too_short(needed);
     }
     lines::write_sheet(out, award);
-    TextWritten {
-        verdict: Verdict::Accepted,
-        bytes: needed as u64,
-    }
+    output::whole(needed)
 }

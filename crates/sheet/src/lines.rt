@@ -1,6 +1,5 @@
 // The lines of a sheet, written one after the other from a place of the output on. Each function answers the place after what it wrote,
 // and its caller has measured that there is room.
-ghost use mathlib.Core.Path.{_≡_};
 ghost use mathlib.Core.List.{_++_};
 ghost use Prim.Native.Nat.{_+_, _≤_};
 ghost use lib.ListN.{length, take};

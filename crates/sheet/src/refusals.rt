@@ -5,7 +5,6 @@ ghost use Rattle.refusal.specs.declared.Verdict.the-variants.{Accepted};
 ghost use Rattle.sheettext.specs.Sheet.{refusalText};
 ghost use Rattle.output.specs.Writing.{writtenOf, outputAfter};
 use output::TextWritten;
-use refusal::Rule;
 use refusal::Verdict;
 
 // Writes the one line that is printed for a refusal at the beginning of the output: number and place.
@@ -17,16 +16,10 @@ pub fn write_refusal(verdict: Verdict, out: &mut [u8]) -> TextWritten
     let place = refusal::place(verdict);
     let needed = 12 + printer::digit_count(number) + printer::digit_count(place);
     if out.len() < needed {
-        return TextWritten {
-            verdict: Verdict::Refused(Rule::OutputLength, needed as u64),
-            bytes: 0,
-        };
+        return output::too_short(needed);
     }
     let after_number = printer::write_number(out, 0, b"(refused ", number);
     let after_place = printer::write_number(out, after_number, b" ", place);
     printer::write_word(out, after_place, b")\n");
-    TextWritten {
-        verdict: Verdict::Accepted,
-        bytes: needed as u64,
-    }
+    output::whole(needed)
 }

@@ -49,11 +49,5 @@ fn books(text: &[u8]) {
 
 fn room(name: &[u8], text: &[u8]) {
     let figure = tender::room(text);
-    report::text(name);
-    report::text(b": ");
-    let verdict = figure.verdict;
-    report::outcome(verdict);
-    report::text(b", ");
-    report::number(figure.bytes);
-    report::text(b"\n");
+    report::room(name, figure);
 }

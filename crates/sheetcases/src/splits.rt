@@ -1,26 +1,9 @@
 // Prices of proposed splits, from a text.
-use split::SplitPrice;
-
 pub fn run() {
     report::text(b"splits:\n");
     of_the_book();
     refused();
     uncovered();
-}
-
-fn show(name: &[u8], s: SplitPrice) {
-    report::text(name);
-    report::text(b": ");
-    let verdict = s.verdict;
-    report::outcome(verdict);
-    report::text(b", ");
-    let price = s.price;
-    report::cents(price);
-    if s.meets {
-        report::text(b", yes\n");
-    } else {
-        report::text(b", no\n");
-    }
 }
 
 // A split of document 01's book.
@@ -29,7 +12,7 @@ fn proposed(name: &[u8], quantities: &[u64]) {
         b"(demand 120)\n(bid 3 (seg 1 60 400 0) (seg 61 100 350 -500))\n(bid 8 (seg 20 80 380 1000))\n(bid 12 (seg 120 120 370 0))\n",
         quantities,
     );
-    show(name, s);
+    report::split(name, s);
 }
 
 fn of_the_book() {
@@ -46,7 +29,7 @@ fn refused() {
 
 fn uncovered() {
     let s = tender::price_split(b"(demand 119)\n(bid 12 (seg 120 120 370 0))\n", &[120]);
-    show(b"120 of a book that is not covered", s);
+    report::split(b"120 of a book that is not covered", s);
     let broken = tender::price_split(b"(demand 119)\n(bid 12 (seg 120 119 370 0))\n", &[120]);
-    show(b"a split of a broken book", broken);
+    report::split(b"a split of a broken book", broken);
 }

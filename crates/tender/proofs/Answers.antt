@@ -9,6 +9,7 @@ use Rattle.book.specs.Entries.{BookEntries, bookEntries}
 use Rattle.book.specs.Rules.{bookVerdict}
 use Rattle.booktext.specs.BookText.{bookText}
 use Rattle.output.specs.declared.TextWritten.{TextWritten}
+use Rattle.output.specs.Writing.{notWritten}
 use Rattle.output.proofs.Answers.{Answered, refused-before}
 use Rattle.reader.specs.declared.BookRead.{BookRead}
 use Rattle.reader.specs.Reading.{readOf}
@@ -29,9 +30,10 @@ module _ (t : List ℕ) (read : BookRead) (is : read ≡ readOf t) where
     pub text-refused : {A : Type 0} (answer : BookEntries → A) (refused : Verdict → A) → refused (read .verdict) ≡ answerOf answer refused t
     text-refused answer refused = rw (← is, told)
 
-    pub book-refused : (out : List ℕ) → Answered (readOf t .verdict) (bookText (bookOf t)) out (record { verdict = read .verdict; bytes = 0 }) out
-    book-refused out =
-        refused-before (readOf t .verdict) (bookText (bookOf t)) out (read .verdict) (ap (λ (r : BookRead). r .verdict) is) rule place told
+    pub book-refused : (out : List ℕ) (answer : TextWritten) → answer ≡ notWritten (read .verdict)
+        → Answered (readOf t .verdict) (bookText (bookOf t)) out answer out
+    book-refused out answer made =
+        refused-before (readOf t .verdict) (bookText (bookOf t)) out answer (read .verdict) made (ap (λ (r : BookRead). r .verdict) is) rule place told
 
   module _ (told : read .verdict ≡ Accepted) where
     -- the answer is the one about the record that was read
@@ -50,11 +52,11 @@ module _ (t : List ℕ) (read : BookRead) (is : read ≡ readOf t) where
 -- how a text was cleared
 module _ (t : List ℕ) (cleared : Clearing) (is : cleared ≡ clearText t) where
   module _ (rule : Rule) (place : ℕ) (told : cleared .verdict ≡ Refused rule place) where
-    pub sheet-refused : (out : List ℕ)
-        → Answered (clearText t .verdict) (sheetText (clearText t .award)) out (record { verdict = cleared .verdict; bytes = 0 }) out
-    sheet-refused out =
-        refused-before (clearText t .verdict) (sheetText (clearText t .award)) out (cleared .verdict) (ap (λ (r : Clearing). r .verdict) is) rule
-        place told
+    pub sheet-refused : (out : List ℕ) (answer : TextWritten) → answer ≡ notWritten (cleared .verdict)
+        → Answered (clearText t .verdict) (sheetText (clearText t .award)) out answer out
+    sheet-refused out answer made =
+        refused-before (clearText t .verdict) (sheetText (clearText t .award)) out answer (cleared .verdict) made
+        (ap (λ (r : Clearing). r .verdict) is) rule place told
 
     pub refusal-printed : refusalText (cleared .verdict) ≡ printedText t
     unfolding printedText

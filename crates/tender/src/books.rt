@@ -16,7 +16,7 @@ pub fn write(text: &[u8], out: &mut [u8]) -> TextWritten
     let read = reader::read(text);
     let verdict = read.verdict;
     if let Verdict::Refused(_, _) = verdict {
-        return TextWritten { verdict, bytes: 0 };
+        return output::refused(verdict);
     }
     let book = read.book;
     writer::write(book, out)

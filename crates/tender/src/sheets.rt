@@ -15,7 +15,7 @@ pub fn sheet(text: &[u8], out: &mut [u8]) -> TextWritten
     let cleared = clear(text);
     let verdict = cleared.verdict;
     if let Verdict::Refused(_, _) = verdict {
-        return TextWritten { verdict, bytes: 0 };
+        return output::refused(verdict);
     }
     let award = cleared.award;
     sheet::write(award, out)

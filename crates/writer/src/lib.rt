@@ -9,7 +9,6 @@ mod lines;
 
 use book::Book;
 use output::TextWritten;
-use refusal::Rule;
 use refusal::Verdict;
 
 // Writes the text of an accepted book at the beginning of the output. With a refusal the output is unchanged.
@@ -19,18 +18,12 @@ pub fn write(book: Book, out: &mut [u8]) -> TextWritten
 {
     let verdict = bookrules::check(book);
     if let Verdict::Refused(_, _) = verdict {
-        return TextWritten { verdict, bytes: 0 };
+        return output::refused(verdict);
     }
     let needed = lengths::book_length(book);
     if out.len() < needed {
-        return TextWritten {
-            verdict: Verdict::Refused(Rule::OutputLength, needed as u64),
-            bytes: 0,
-        };
+        return output::too_short(needed);
     }
     lines::write_book(out, book);
-    TextWritten {
-        verdict,
-        bytes: needed as u64,
-    }
+    output::whole(needed)
 }

@@ -37,11 +37,16 @@ measured c =
     let line = line-size (number .before .before .args .verdict) _ _ (number .number .ensures) (place .place .ensures) in
     omega arith
 
+too-short-requires : tie.Need-too-short-requires
+too-short-requires c κs = search needs
+
 returns : tie.Need-returns
 returns c =
-    let size = c .before in
+    let answer = c .too-short in
+    let size = c .before .before in
     let a = size .before .before .before .before .before .args in
-    too-short Accepted (refusalText (a .verdict)) (a .out .now) Accepted refl refl _ (sym (measured size)) (omega (arith, c .if1 .taken))
+    too-short Accepted (refusalText (a .verdict)) (a .out .now) refl _ (sym (measured size)) (answer .result) (answer .ensures)
+    (omega (arith, c .before .if1 .taken))
 
 slice-aggregate-write-number : tie.Need-slice-aggregate-write-number
 slice-aggregate-write-number c = search needs
@@ -64,9 +69,13 @@ write-word-requires c κs = search needs
 same-length : tie.Need-same-length
 same-length c = search needs
 
+whole-requires : tie.Need-whole-requires
+whole-requires c κs = search needs
+
 returns-2 : tie.Need-returns-2
 returns-2 c =
-    let w₃ = c .before .before in
+    let answer = c .whole in
+    let w₃ = c .before .before .before in
     let w₂ = w₃ .before .before .before .before .before in
     let w₁ = w₂ .before .before .before .before .before in
     let fits = w₁ .before .before .before in
@@ -77,8 +86,8 @@ returns-2 c =
     let line =
     wrote-refusal (a .verdict) _ _ (number .number .ensures) (place .place .ensures) (a .out .now) 0 _ _ _ _ _ _
     (omega (arith, measured size, fits .if1 .left)) (w₁ .write-number .ensures) (w₂ .write-number2 .ensures) (w₃ .write-word .ensures) in
-    in-full Accepted (refusalText (a .verdict)) (a .out .now) Accepted refl refl _ (sym (measured size)) (omega (arith, fits .if1 .left))
-    (w₃ .write-word .last .0) (line .1)
+    in-full Accepted (refusalText (a .verdict)) (a .out .now) refl _ (sym (measured size)) (answer .result) (answer .ensures)
+    (omega (arith, fits .if1 .left)) (w₃ .write-word .last .0) (line .1)
 
 pub write-refusal-spec : {M : Type 1} → statement M
 write-refusal-spec =
@@ -90,6 +99,7 @@ write-refusal-spec =
     add-needed
     digit-count-requires-2
     add-needed-2
+    too-short-requires
     returns
     slice-aggregate-write-number
     write-number-requires
@@ -97,5 +107,6 @@ write-refusal-spec =
     write-number-requires-2
     slice-aggregate-write-word
     write-word-requires
+    whole-requires
     same-length
     returns-2)

@@ -10,12 +10,16 @@ read-requires c κs = search needs
 enum-told : tie.Need-enum-told
 enum-told c = search needs
 
+refused-requires : tie.Need-refused-requires
+refused-requires c κs = search needs
+
 returns : tie.Need-returns
 unfolding bookWritten bookOutput
 returns c =
-    let told = c .enum-told .given in
-    let read = c .before .before .read in
-    book-refused _ (read .result) (read .ensures) (told .0 .0) (told .0 .1 .0) (told .1) _
+    let answer = c .refused in
+    let told = c .before .enum-told .given in
+    let read = c .before .before .before .read in
+    book-refused _ (read .result) (read .ensures) (told .0 .0) (told .0 .1 .0) (told .1) _ (answer .result) (answer .ensures)
 
 enum-told-2 : tie.Need-enum-told-2
 enum-told-2 c = search needs
@@ -37,4 +41,4 @@ returns-2 c =
 pub write-spec : {M : Type 1} → statement M
 write-spec =
     tie.close
-    (tie.spec read-requires enum-told returns enum-told-2 write-requires same-length returns-2)
+    (tie.spec read-requires enum-told refused-requires returns enum-told-2 write-requires same-length returns-2)

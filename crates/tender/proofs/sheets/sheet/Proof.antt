@@ -10,12 +10,16 @@ clear-requires c κs = search needs
 enum-told : tie.Need-enum-told
 enum-told c = search needs
 
+refused-requires : tie.Need-refused-requires
+refused-requires c κs = search needs
+
 returns : tie.Need-returns
 unfolding sheetWritten sheetOutput
 returns c =
-    let told = c .enum-told .given in
-    let clear = c .before .before .clear in
-    sheet-refused _ (clear .result) (clear .ensures) (told .0 .0) (told .0 .1 .0) (told .1) _
+    let answer = c .refused in
+    let told = c .before .enum-told .given in
+    let clear = c .before .before .before .clear in
+    sheet-refused _ (clear .result) (clear .ensures) (told .0 .0) (told .0 .1 .0) (told .1) _ (answer .result) (answer .ensures)
 
 enum-told-2 : tie.Need-enum-told-2
 enum-told-2 c = search needs
@@ -37,4 +41,4 @@ returns-2 c =
 pub sheet-spec : {M : Type 1} → statement M
 sheet-spec =
     tie.close
-    (tie.spec clear-requires enum-told returns enum-told-2 write-requires same-length returns-2)
+    (tie.spec clear-requires enum-told refused-requires returns enum-told-2 write-requires same-length returns-2)
