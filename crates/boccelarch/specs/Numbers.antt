@@ -1,5 +1,5 @@
 -- An award as numbers, for C: what every text and every lent list of numbers gets. No amount of an award is negative
--- (demand3/proofs/Fits.antt: `total-up-to`, `row-up-to`), so that no sign is lost.
+-- (demand3/proofs/Fits.antt: `text-total-up-to`, `text-row-up-to`), so that no sign is lost.
 use Prim.Native.Nat.{ℕ, _*_}
 use mathlib.Core.List.{List, [], _∷_}
 use lib.Dec.{leb}

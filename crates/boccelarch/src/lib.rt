@@ -1,5 +1,5 @@
 // The entries for C. Each takes the bytes of a bid book, gives the number of the refusal (0 where nothing is refused), and puts its
-// place and the other results behind references. They are thin: what they answer is worked out in `tender`.
+// place and the other results behind references. What they answer is worked out in `tender`.
 ghost use mathlib.Core.Path.{_≡_};
 ghost use mathlib.Core.Bool.{cond};
 ghost use lib.ListN.{length};

@@ -4,6 +4,7 @@ ghost use Prim.Native.Nat.{_≤_};
 ghost use lib.ListN.{length, take};
 ghost use Rattle.tender.specs.FromText.{printedText};
 
+// Reading. The module is private: what is pub in it serves this program alone.
 mod input;
 
 use input::Input;

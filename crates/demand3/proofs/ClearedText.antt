@@ -7,12 +7,13 @@ use lib.ListN.{length, getD}
 use Rattle.refusal.specs.declared.Verdict.{Verdict}
 use Rattle.refusal.specs.declared.Verdict.the-variants.{Accepted, Refused}
 use Rattle.book.specs.declared.Book.{Book}
+use Rattle.book.specs.Rules.{bookVerdict}
 use Rattle.book.specs.Entries.{BookEntries, bookEntries}
 use Rattle.forms.specs.Shape.{answer}
 use Rattle.reader.specs.Reading.{readOf}
 use Rattle.refusal.proofs.Firsts.{refused-not}
 use Rattle.roundtrip.proofs.Reading.{accepted-as}
-use Rattle.roundtrip.proofs.Back.{text-read, book-accepted, arrays-read}
+use Rattle.roundtrip.proofs.Back.{text-read, zeros-past, book-accepted, arrays-read}
 use Rattle.divisions.specs.Award.{Priced}
 use Rattle.award.specs.declared.Award.{Award}
 use Rattle.award.specs.declared.Row.{Row}
@@ -72,7 +73,10 @@ module _ (t : List ℕ) (accepted : readOf t .verdict ≡ Accepted) where
   cleared-book = rw accepted
 
   pub accepted-text : AcceptedText t (bookOf t)
-  accepted-text = record { short = accepted-as t accepted .1 .short; text = text-read t accepted; accepted = book-accepted t accepted }
+  accepted-text = record {
+    says = record { short = accepted-as t accepted .1 .short; text = text-read t accepted };
+    accepted = ap (λ (r : Book). bookVerdict (bookEntries r)) (sym (zeros-past t accepted)) ∙ book-accepted t accepted;
+  }
 
 -- where the answer is accepted the text was, and the answer is its award
 module _ (t : List ℕ) (accepted : clearText t .verdict ≡ Accepted) where

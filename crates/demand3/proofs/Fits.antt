@@ -15,6 +15,7 @@ use Rattle.lists.proofs.Slices.{take-most}
 use Rattle.forms.specs.Digits.{digits, signedDigits}
 use Rattle.forms.proofs.Digits.{length-below}
 use Rattle.refusal.specs.declared.Rule.{Rule}
+use Rattle.refusal.specs.declared.Rule.the-variants.{OutputLength}
 use Rattle.refusal.specs.declared.Verdict.{Verdict}
 use Rattle.refusal.specs.declared.Verdict.the-variants.{Accepted, Refused}
 use Rattle.refusal.proofs.Numbers.{at-most-eleven}
@@ -37,7 +38,7 @@ use Rattle.clearing.specs.Clearing.{clearOf}
 use Rattle.cleared.specs.Awarded.{rowsOf, rowAt}
 use Rattle.cleared.proofs.Costs.{NotNegative, UpTo, mostTotal}
 use Rattle.tender.specs.FromText.{bookOf, clearText, sheetWritten, printedText}
-use Rattle.demand3.proofs.Places.{SmallPlace, text-small}
+use Rattle.demand3.proofs.Places.{UpToNine, up-to-nine}
 use Rattle.demand3.proofs.ClearedText.{the-award, cleared-book, was-read, record-cleared, eight-bids}
 use Rattle.cleared.proofs.Amounts.{TotalUpTo, RowUpTo, demand-up-to, total-from-zero, rows-up-to}
 
@@ -94,13 +95,13 @@ module _ (t : List ℕ) where
     is = cleared-book t (was-read t accepted)
 
     -- no amount of the award is negative, and its numbers have these bounds
-    pub total-up-to : UpTo mostTotal (clearText t .award .total .0)
-    total-up-to =
+    pub text-total-up-to : UpTo mostTotal (clearText t .award .total .0)
+    text-total-up-to =
         subst (λ (c : Clearing). UpTo mostTotal (c .award .total .0)) (sym is)
         (total-from-zero (readOf t .book) (eight-bids t accepted) (record-cleared t accepted))
 
-    pub row-up-to : (i : ℕ) → i < clearText t .award .count → RowUpTo (rowAt (clearText t .award) i)
-    row-up-to i h =
+    pub text-row-up-to : (i : ℕ) → i < clearText t .award .count → RowUpTo (rowAt (clearText t .award) i)
+    text-row-up-to i h =
         let held = eight-bids t accepted in
         let e = record-cleared t accepted in
         let counted = ap (λ (c : Clearing). c .award .count) is ∙ count-is (readOf t .book) held e in
@@ -127,13 +128,18 @@ module _ (t : List ℕ) where
       go : (v : Verdict) → clearText t .verdict ≡ v → length (printedText t) ≤ 600
       go Accepted e = rw e (omega (arith, sheet-fits e))
       go (Refused rule place) e =
-          let small : SmallPlace (Refused rule place) = subst SmallPlace e (text-small t) in
-          rw e (omega (arith, refusal-short rule place small))
+          let told : UpToNine (Refused rule place) = subst UpToNine e (up-to-nine t) in
+          rw e (omega (arith, refusal-short rule place (told .1)))
 
-  pub never-short : (out : List ℕ) → 600 ≤ length out → sheetWritten t (length out) .verdict ≡ clearText t .verdict
+  same-verdict : (out : List ℕ) → 600 ≤ length out → sheetWritten t (length out) .verdict ≡ clearText t .verdict
   unfolding sheetWritten writtenOf writingVerdict
-  never-short out room = go (clearText t .verdict) refl
+  same-verdict out room = go (clearText t .verdict) refl
     where
       go : (v : Verdict) → clearText t .verdict ≡ v → sheetWritten t (length out) .verdict ≡ clearText t .verdict
       go Accepted e = rw (e, le-leb (length (sheetText (clearText t .award))) (length out) (omega (arith, sheet-fits e)))
       go (Refused rule place) e = rw e
+
+  pub never-short : (out : List ℕ) → 600 ≤ length out → (place : ℕ) → sheetWritten t (length out) .verdict ≡ Refused OutputLength place → ⊥
+  never-short out room place e =
+      let told : UpToNine (Refused OutputLength place) = subst UpToNine (sym (same-verdict out room) ∙ e) (up-to-nine t) in
+      omega (arith, told .0)

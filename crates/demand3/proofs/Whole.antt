@@ -44,7 +44,7 @@ module _ (t out : List ℕ) where
       let (answer, exit) = refused-before (clearText t .verdict) text out (notWritten (Refused rule place)) (Refused rule place) refl (sym e) rule place refl in
       (sym answer, sym exit)
 
-  refused-text : (rule : Rule) (place : ℕ) → readOf t .verdict ≡ Refused rule place → NoSheet t out rule place
+  pub refused-text : (rule : Rule) (place : ℕ) → readOf t .verdict ≡ Refused rule place → NoSheet t out rule place
   unfolding clearText
   refused-text rule place e = no-sheet rule place (rw e)
 
@@ -83,7 +83,7 @@ module _ (t out : List ℕ) where
     where
       go : (v : Verdict) → bookVerdict (bookEntries (bookRecord b)) ≡ v → Outcome t out
       go Accepted f = accepted-outcome (ap (λ (r : BookRead). r .verdict) e ∙ f)
-      go (Refused rule line) f = broken b short it rule line f (refused-text rule line (ap (λ (r : BookRead). r .verdict) e ∙ f))
+      go (Refused rule line) f = broken b (record { short = short; text = it }) rule line f (refused-text rule line (ap (λ (r : BookRead). r .verdict) e ∙ f))
 
   -- Whatever bytes a text has: if it is accepted and covered, the bytes written are the sheet of the award that no other division beats, or
   -- the output is too short for it; else the refusal is the stated one.

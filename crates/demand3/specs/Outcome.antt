@@ -6,6 +6,7 @@ use mathlib.Core.Path.{_≡_}
 use lib.ListN.{length}
 use Rattle.refusal.specs.declared.Rule.{Rule}
 use Rattle.refusal.specs.declared.Rule.the-variants.{TextLength, Shape, NotCovered, OutputLength}
+use Rattle.refusal.specs.declared.Verdict.{Verdict}
 use Rattle.refusal.specs.declared.Verdict.the-variants.{Accepted, Refused}
 use Rattle.book.specs.Entries.{BookEntries, bookEntries}
 use Rattle.book.specs.Rules.{bookVerdict}
@@ -14,18 +15,26 @@ use Rattle.booktext.specs.BookText.{bookText}
 use Rattle.booktext.specs.WellFormed.{WellFormedBook}
 use Rattle.booktext.specs.Record.{bookRecord}
 use Rattle.printer.specs.Written.{written}
-use Rattle.roundtrip.proofs.Reading.{NotOfShape}
+use Rattle.roundtrip.specs.NotOfShape.{NotOfShape}
 use Rattle.award.specs.declared.Award.{Award}
 use Rattle.sheettext.specs.Sheet.{sheetText, refusalText}
 use Rattle.cleared.specs.OfBook.{DivisionOf}
 use Rattle.tender.specs.FromText.{sheetWritten, sheetOutput, printedText}
 use Rattle.demand3.specs.TheAward.{TheAward}
 
--- t is the text of the accepted book b
-pub record AcceptedText (t : List ℕ) (b : BookEntries) : Type 0 where
+-- the rules on the book that a text says: those on its record, which holds the first eight bids and six segments beside the text's counts
+abbrev pub textVerdict : BookEntries → Verdict
+textVerdict b = bookVerdict (bookEntries (bookRecord b))
+
+-- t is the text of the book b
+pub record TextSays (t : List ℕ) (b : BookEntries) : Type 0 where
   pub short : length t ≤ 4096
   pub text : TextOf WellFormedBook bookText t b
-  pub accepted : bookVerdict b ≡ Accepted
+
+-- t is the text of the accepted book b
+pub record AcceptedText (t : List ℕ) (b : BookEntries) : Type 0 where
+  pub says : TextSays t b
+  pub accepted : textVerdict b ≡ Accepted
 
 module _ (t out : List ℕ) where
   -- refused: no byte is written, and the output is unchanged
@@ -40,8 +49,7 @@ module _ (t out : List ℕ) where
   pub data Outcome : Type 0 where
     too-long : 4096 < length t → NoSheet TextLength 4096 → Outcome
     not-of-shape : (place : ℕ) → NotOfShape t place → NoSheet Shape place → Outcome
-    broken : (b : BookEntries) → length t ≤ 4096 → TextOf WellFormedBook bookText t b → (rule : Rule) (line : ℕ)
-        → bookVerdict (bookEntries (bookRecord b)) ≡ Refused rule line → NoSheet rule line → Outcome
+    broken : (b : BookEntries) → TextSays t b → (rule : Rule) (line : ℕ) → textVerdict b ≡ Refused rule line → NoSheet rule line → Outcome
     not-covered : (b : BookEntries) → AcceptedText t b → ((rs : List ℕ) → DivisionOf b rs → ⊥) → NoSheet NotCovered 0 → Outcome
     output-short : (b : BookEntries) → AcceptedText t b → (a : Award) → TheAward b a → length out < length (sheetText a)
         → NoSheet OutputLength (length (sheetText a)) → Outcome

@@ -1,10 +1,9 @@
 -- Demand 3's words for the award of a book, as its record shows it.
 use Prim.Native.Nat.{ℕ, _≤_, _<_}
-use mathlib.Core.List.{List}
+use mathlib.Core.List.{List, []}
 use mathlib.Core.Path.{_≡_}
 use lib.ListN.{getD}
-use Rattle.book.specs.Entries.{BidEntries, BookEntries, bidEntries}
-use Rattle.book.proofs.Records.{noBid}
+use Rattle.book.specs.Entries.{BidEntries, BookEntries}
 use Rattle.supply.specs.Supply.{suppliesOf}
 use Rattle.divisions.specs.Award.{Priced}
 use Rattle.divisions.specs.Best.{insideCount}
@@ -21,9 +20,9 @@ abbrev pub TotalOf : BookEntries → Total → Type 0
 TotalOf b (Amount cents) = (award : Priced) × IsAwardOf b award × (award .cost ≡ cents .0)
 TotalOf b Nothing = (rs : List ℕ) → DivisionOf b rs → ⊥
 
--- the bid with index i, in book order from 0
+-- the bid with index i, in book order from 0; past the bids, where it is never asked for, one without segments
 abbrev pub bidAt : BookEntries → ℕ → BidEntries
-bidAt b i = getD (b .bids) i (bidEntries noBid)
+bidAt b i = getD (b .bids) i (record { bidder = 0; count = 0; segments = [] })
 
 pub record TheAward (b : BookEntries) (a : Award) : Type 0 where
   pub demand : a .demand .0 ≡ b .demand

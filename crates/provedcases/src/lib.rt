@@ -1,1 +1,1 @@
-// The cases of document 01 that are marked P, as far as they concern records: one table and one proof (specs/ and proofs/); no code.
+// The cases of document 01 that are marked P, from the text to what is printed: one table and one proof (specs/ and proofs/); no code.

@@ -23,6 +23,7 @@ use Rattle.booktext.proofs.BookForm.{book, book-reading}
 use Rattle.reader.specs.declared.BookRead.{BookRead}
 use Rattle.reader.specs.Reading.{refusedAnswer, bookAnswer, readOf}
 use Rattle.reader.proofs.Answers.{answered, any-reading, read-long, read-other, accepted-answer}
+use Rattle.roundtrip.specs.NotOfShape.{NotOfShape}
 
 -- What a text of at most 4,096 bytes is answered by; any other is refused by its length.
 pub data Answered (t : List ℕ) : Type 0 where
@@ -58,12 +59,6 @@ accepted-as t e = go (read-answered t)
 -- no rule for a record is the rule for a text's shape
 not-shape : (b : BookEntries) (n : ℕ) → bookVerdict b ≡ Refused Shape n → ⊥
 not-shape b n e = omega (arith, book-numbers b Shape n e .0)
-
--- Refusal 2: the text is not of the shape, and the place is the length of the longest beginning that some text of the shape also has.
-pub record NotOfShape (t : List ℕ) (n : ℕ) : Type 0 where
-  pub short : length t ≤ 4096
-  pub no-book : (b : BookEntries) → TextOf WellFormedBook bookText t b → ⊥
-  pub longest : Longest WellFormedBook bookText t n
 
 pub refused-place : (t : List ℕ) (n : ℕ) → readOf t .verdict ≡ Refused Shape n → NotOfShape t n
 unfolding answer bookAnswer
