@@ -1,5 +1,10 @@
 pub mod Model
 pub mod Books
+pub mod Hold
+pub mod Bytes
+pub mod Small
+pub mod Fits
+pub mod Test
 pub mod Computed
 pub mod Proved
 pub mod Inside

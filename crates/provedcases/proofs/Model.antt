@@ -1,30 +1,39 @@
--- Clearing with the search in the place of the listing: it computes, and gives the same. Assumes nothing.
+-- Clearing with the search in the place of the listing: it computes, and gives the same, for the search finds the award that is defined by
+-- the listing. Assumes nothing.
 use Prim.Native.Nat.{ℕ, suc}
 use mathlib.Core.List.{List, [], _∷_}
 use mathlib.Core.Option.{Option, some, none}
+use mathlib.Core.Path.{_≡_, refl, ap, ap₂, _∙_}
+use Rattle.lists.specs.All.{All}
 use Rattle.lists.specs.Padded.{padded}
+use Rattle.lists.proofs.Removed.{all-removed}
 use Rattle.refusal.specs.Checks.{whenAccepted}
 use Rattle.refusal.specs.declared.Rule.the-variants.{NotCovered}
+use Rattle.refusal.specs.declared.Verdict.{Verdict}
 use Rattle.refusal.specs.declared.Verdict.the-variants.{Accepted, Refused}
 use Rattle.book.specs.Entries.{BidEntries, BookEntries}
 use Rattle.book.specs.Rules.{bookVerdict}
+use Rattle.book.proofs.Accepted.{AcceptedBid, all-accepted}
 use Rattle.supply.specs.Supply.{suppliesOf}
 use Rattle.divisions.specs.Award.{Priced}
 use Rattle.choices.proofs.Search.{searched}
+use Rattle.choices.proofs.Accepted.{sound-supplies}
+use Rattle.choices.proofs.Finds.{finds}
+use Rattle.award.specs.declared.Total.{Total}
 use Rattle.award.specs.declared.Row.{Row}
 use Rattle.award.specs.Award.{noRow, rowOf}
 use Rattle.clearing.specs.declared.Clearing.{Clearing}
-use Rattle.clearing.specs.Clearing.{bookWithout, totalOf, refusedClearing}
+use Rattle.clearing.specs.Clearing.{awardOfBook, bookWithout, totalOf, totalWithout, rowsFrom, awardRecord, clearedBook, clearOf, refusedClearing}
 
-abbrev pub searchedBook : BookEntries → Option Priced
+abbrev searchedBook : BookEntries → Option Priced
 searchedBook b = searched (b .demand) (suppliesOf (b .bids))
 
-abbrev pub modelRows : BookEntries → ℕ → List BidEntries → List ℕ → List Row
+abbrev modelRows : BookEntries → ℕ → List BidEntries → List ℕ → List Row
 modelRows b i [] rs = []
 modelRows b i (bid ∷ bids) [] = []
 modelRows b i (bid ∷ bids) (r ∷ rs) = rowOf bid r (totalOf (searchedBook (bookWithout i b))) ∷ modelRows b (suc i) bids rs
 
-abbrev pub modelCleared : BookEntries → Option Priced → Clearing
+abbrev modelCleared : BookEntries → Option Priced → Clearing
 modelCleared b none = refusedClearing (Refused NotCovered 0)
 modelCleared b (some award) = record {
   verdict = Accepted;
@@ -38,3 +47,43 @@ modelCleared b (some award) = record {
 
 abbrev pub modelOf : BookEntries → Clearing
 modelOf b = whenAccepted (bookVerdict b) (modelCleared b (searchedBook b)) (refusedClearing (bookVerdict b))
+
+-- the search finds the award of a book's bids
+found : (b : BookEntries) → All AcceptedBid (b .bids) → searchedBook b ≡ awardOfBook b
+unfolding awardOfBook
+found b bids = finds (b .demand) _ (sound-supplies (b .bids) bids)
+
+module _ (b : BookEntries) (bids : All AcceptedBid (b .bids)) where
+  bids-left : (i : ℕ) → All AcceptedBid (bookWithout i b .bids)
+  unfolding bookWithout
+  bids-left i = all-removed AcceptedBid i (b .bids) bids
+
+  totals : (i : ℕ) → totalOf (searchedBook (bookWithout i b)) ≡ totalWithout b i
+  unfolding totalWithout
+  totals i = ap totalOf (found (bookWithout i b) (bids-left i))
+
+  rows : (i : ℕ) (bs : List BidEntries) (rs : List ℕ) → modelRows b i bs rs ≡ rowsFrom b i bs rs
+  unfolding rowsFrom
+  rows i [] rs = refl
+  rows i (x ∷ bs) [] = refl
+  rows i (x ∷ bs) (r ∷ rs) = ap₂ (λ (t : Total) (l : List Row). rowOf x r t ∷ l) (totals i) (rows (suc i) bs rs)
+
+  answers : (o : Option Priced) → modelCleared b o ≡ clearedBook b o
+  unfolding clearedBook awardRecord
+  answers none = refl
+  answers (some award) =
+      ap (λ (l : List Row). record {
+        verdict = Accepted;
+        award = record { demand = record { 0 = b .demand }; total = record { 0 = award .cost }; count = b .count; rows = padded 8 noRow l };
+      }) (rows 0 (b .bids) (award .quantities))
+
+-- a book that is refused by rules 3 to 8 has one answer, and else the search decides
+pub model-is : (b : BookEntries) → modelOf b ≡ clearOf b
+unfolding clearOf
+model-is b = go (bookVerdict b) refl
+  where
+    go : (v : Verdict) → bookVerdict b ≡ v → modelOf b ≡ clearOf b
+    go Accepted e =
+        let bids = all-accepted b e in
+        rw e (ap (modelCleared b) (found b bids) ∙ answers b bids (awardOfBook b))
+    go (Refused rule line) e = rw e
