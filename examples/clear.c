@@ -1,4 +1,4 @@
-/* Clears the bid book that is named by the first argument: prints its award sheet, or the refusal. */
+/* Clears the bid book that is named by the argument: prints its award sheet, or the refusal. */
 #include <inttypes.h>
 #include <stdio.h>
 
@@ -6,14 +6,19 @@
 
 int main(int argc, char **argv)
 {
-    uint8_t text[4097]; /* one byte more than a book may have, so that a longer one is seen to be too long */
+    uint8_t text[BOCCELARCH_TEXT_BYTES + 1]; /* one byte more than a book may have, so that a longer one is seen to be too long */
     uint8_t sheet[BOCCELARCH_SHEET_BYTES];
     uint64_t place, bytes, number;
     size_t length;
     FILE *book;
 
-    if (argc != 2 || !(book = fopen(argv[1], "rb"))) {
+    if (argc != 2) {
         fprintf(stderr, "usage: %s BOOK\n", argv[0]);
+        return 2;
+    }
+    book = fopen(argv[1], "rb");
+    if (book == NULL) {
+        perror(argv[1]);
         return 2;
     }
     length = fread(text, 1, sizeof text, book);

@@ -4,14 +4,19 @@
  * refused. It always sets *place to the place of the refusal (a line, a place in the text, or a length), 0 where nothing is refused, and
  * every other number behind a pointer; with a refusal those are 0.
  *
- * With a refusal not one byte of a lent output is changed. Without one, exactly the bytes that are told are written at its beginning,
- * and those past them stay as they were. No byte outside of what was lent is read or written.
+ * With a refusal not one byte of a lent output is changed. Without one, exactly *bytes bytes are written at its beginning (by
+ * boccelarch_award, *count rows of BOCCELARCH_COLUMNS numbers), and those past them stay as they were. No byte outside of what was lent is
+ * read or written.
  *
- * What a caller owes: each pointer is valid for the length beside it, also where that is 0 (so it is never NULL); uint64_t and int64_t are
- * aligned; and what is written to (outputs, lists of rows, numbers behind pointers) overlaps nothing else that is passed. The functions
- * keep no state, allocate nothing and may be called from several threads at once. They need less than 64 KB of stack.
+ * What is asked of a caller: each pointer is valid for the length beside it, also where that is 0 (so it is never NULL); uint64_t and
+ * int64_t are aligned; and what is written to (outputs, lists of rows, numbers behind pointers) overlaps nothing else that is passed. The
+ * functions keep no state, allocate nothing and may be called from several threads at once.
  *
- * That they answer what docs/CLAIMS.md states is proved, for every text and every length.
+ * A thread with a stack of 64 KB can call each of them: tests/boundary/run checks it on a book of eight bids of six segments.
+ * boccelarch_sheet and boccelarch_award try every choice of segments: most books take milliseconds, eight bids of six segments can take
+ * two or three seconds.
+ *
+ * That the functions answer what docs/CLAIMS.md states is proved, for every text and every length.
  */
 #ifndef BOCCELARCH_H
 #define BOCCELARCH_H
@@ -40,13 +45,17 @@ enum boccelarch_refusal {
     BOCCELARCH_SPLIT_QUANTITY = 11 /* a quantity missing, neither 0 nor on a segment, or one too many: the line */
 };
 
+/* The longest text; a caller reads one byte more, to see that a text is too long. */
+#define BOCCELARCH_TEXT_BYTES 4096
+
 /* Enough for every sheet. */
 #define BOCCELARCH_SHEET_BYTES 600
 
 /* The award sheet, and its length in bytes. Refused by 1 to 10. */
 uint64_t boccelarch_sheet(const uint8_t *text, size_t text_length, uint8_t *out, size_t out_length, uint64_t *place, uint64_t *bytes);
 
-/* The book written out again, and its length in bytes: of an accepted text, the same text. Refused by 1 to 8 and 10. */
+/* The book written out again, and its length in bytes: of an accepted text, the same text. Refused by 1 to 8 and 10. An output of
+ * BOCCELARCH_TEXT_BYTES holds every accepted book, and so does one of the bytes that boccelarch_room gives for it. */
 uint64_t boccelarch_write(const uint8_t *text, size_t text_length, uint8_t *out, size_t out_length, uint64_t *place, uint64_t *bytes);
 
 /* The room figure, how many bytes the book's text takes at most: 17 + 11 for each bid + 45 for each segment. Refused by 1 to 8. */
@@ -59,7 +68,7 @@ uint64_t boccelarch_split(const uint8_t *text, size_t text_length, const uint64_
 
 /* The award as numbers: a row of BOCCELARCH_COLUMNS numbers for each bid, in book order, so that the quantity of the third bid is
  * rows[2 * BOCCELARCH_COLUMNS + BOCCELARCH_QUANTITY]; the total price in cents; and how many bids there are. rows_length counts numbers,
- * not bytes. Refused by 1 to 10; 10 gives the bytes needed, 8 for each number. */
+ * not bytes. Refused by 1 to 10; 10 gives the bytes needed, 8 for each number, so that a list of *place / 8 numbers is long enough. */
 enum boccelarch_column {
     BOCCELARCH_BIDDER = 0,
     BOCCELARCH_SEGMENT = 1,  /* 0 for a bidder who sells nothing */

@@ -1,0 +1,228 @@
+/* Calls each entry on books of eight bids of six segments, the most that a book may have, in a thread with a stack of 64 KB: a call that
+ * needs more ends the program. Then compares what the entries answered, one with another and with totals that were found in another way.
+ *
+ * Prints a line for each check that fails, and at the end how many passed and how many failed. */
+#define _POSIX_C_SOURCE 200809L /* for pthread.h */
+
+#include <inttypes.h>
+#include <pthread.h>
+#include <stdarg.h>
+#include <stdio.h>
+#include <stdlib.h>
+#include <string.h>
+
+#include "boccelarch.h"
+#include "checks.h"
+
+enum { BIDS = 8, SEGMENTS = 6, ROOM = 17 + BIDS * (11 + SEGMENTS * 45) };
+
+/* Texts */
+
+struct text {
+    char bytes[BOCCELARCH_TEXT_BYTES + 1]; /* and the 0 that vsnprintf ends with */
+    size_t length;
+};
+
+static void append(struct text *text, const char *format, ...)
+{
+    size_t room = sizeof text->bytes - text->length;
+    va_list values;
+    int length;
+
+    va_start(values, format);
+    length = vsnprintf(text->bytes + text->length, room, format, values);
+    va_end(values);
+    if (length < 0 || (size_t)length >= room) {
+        fputs("a text is too long\n", stderr);
+        exit(2);
+    }
+    text->length += (size_t)length;
+}
+
+/* Prices are near each other. Larger quantities have a lower unit price and a higher fixed price, and later bidders sell more. */
+static void append_segment(struct text *book, unsigned bid, unsigned segment)
+{
+    unsigned width = 2500 + 10 * bid, start = 1 + width * segment, end = width + width * segment;
+
+    append(book, " (seg %u %u %u %u)", start, end, 430 - 3 * bid - 7 * segment, 300 * bid + 20000 * segment);
+}
+
+static void make_book(struct text *book, uint64_t demand)
+{
+    unsigned bid, segment;
+
+    book->length = 0;
+    append(book, "(demand %" PRIu64 ")\n", demand);
+    for (bid = 0; bid < BIDS; bid++) {
+        append(book, "(bid %u", 1 + bid);
+        for (segment = 0; segment < SEGMENTS; segment++)
+            append_segment(book, bid, segment);
+        append(book, ")\n");
+    }
+}
+
+/* What the entries answer */
+
+struct answers {
+    const struct text *book;
+    struct {
+        uint64_t number, place, bytes;
+        uint8_t out[BOCCELARCH_SHEET_BYTES];
+    } sheet;
+    struct {
+        uint64_t number, place, total, count, rows[BOCCELARCH_AWARD_NUMBERS];
+    } award;
+    struct {
+        uint64_t number, place, bytes;
+        uint8_t out[BOCCELARCH_TEXT_BYTES];
+    } written;
+    struct {
+        uint64_t number, place, bytes;
+    } room;
+    struct {
+        uint64_t number, place, meets, quantities[BIDS];
+        int64_t price;
+    } split; /* of the award's quantities */
+};
+
+static uint64_t in_award(const struct answers *a, uint64_t bid, enum boccelarch_column column)
+{
+    return a->award.rows[bid * BOCCELARCH_COLUMNS + column];
+}
+
+/* For pthread_create. Everything that is lent lies outside of the thread's stack. */
+static void *call_entries(void *answers)
+{
+    struct answers *a = answers;
+    const uint8_t *text = (const uint8_t *)a->book->bytes;
+    size_t length = a->book->length;
+    uint64_t bid;
+
+    a->sheet.number = boccelarch_sheet(text, length, a->sheet.out, sizeof a->sheet.out, &a->sheet.place, &a->sheet.bytes);
+    a->award.number = boccelarch_award(text, length, a->award.rows, BOCCELARCH_AWARD_NUMBERS, &a->award.place, &a->award.total,
+                                       &a->award.count);
+    a->written.number = boccelarch_write(text, length, a->written.out, sizeof a->written.out, &a->written.place, &a->written.bytes);
+    a->room.number = boccelarch_room(text, length, &a->room.place, &a->room.bytes);
+    for (bid = 0; bid < BIDS; bid++)
+        a->split.quantities[bid] = in_award(a, bid, BOCCELARCH_QUANTITY);
+    a->split.number = boccelarch_split(text, length, a->split.quantities, BIDS, &a->split.place, &a->split.price, &a->split.meets);
+    return NULL;
+}
+
+static void must(const char *what, int error)
+{
+    if (error == 0)
+        return;
+    fprintf(stderr, "%s: %s\n", what, strerror(error));
+    exit(2);
+}
+
+/* The guard is larger than the stack, so that no call steps over it. */
+static void call_entries_in_thread(struct answers *answers)
+{
+    static const size_t stack_bytes = 64 * 1024, guard_bytes = 1024 * 1024;
+    pthread_attr_t attributes;
+    pthread_t thread;
+
+    must("attributes of a thread", pthread_attr_init(&attributes));
+    must("stack", pthread_attr_setstacksize(&attributes, stack_bytes));
+    must("guard", pthread_attr_setguardsize(&attributes, guard_bytes));
+    must("thread", pthread_create(&thread, &attributes, call_entries, answers));
+    must("end of the thread", pthread_join(thread, NULL));
+    pthread_attr_destroy(&attributes);
+}
+
+/* Checks */
+
+static void expect_accepted(const char *entry, uint64_t number, uint64_t place)
+{
+    char what[40];
+
+    snprintf(what, sizeof what, "refusal of the %s", entry);
+    expect_number(what, BOCCELARCH_ACCEPTED, number);
+    snprintf(what, sizeof what, "place of the %s", entry);
+    expect_number(what, 0, place);
+}
+
+static void expect_text(const char *what, const struct text *expected, const uint8_t *bytes, uint64_t length)
+{
+    if (length == expected->length && memcmp(expected->bytes, bytes, expected->length) == 0) {
+        passed++;
+        return;
+    }
+    failed++;
+    printf("%s: %s: expected\n%sgot\n%.*s\n", situation, what, expected->bytes, (int)length, (const char *)bytes);
+}
+
+/* The sheet that the award's numbers make. */
+static void make_sheet(struct text *sheet, uint64_t demand, const struct answers *a)
+{
+    uint64_t bid;
+
+    sheet->length = 0;
+    append(sheet, "(award %" PRIu64 " %" PRIu64 ")\n", demand, a->award.total);
+    for (bid = 0; bid < BIDS; bid++) {
+        append(sheet, "(buy %" PRIu64 " %" PRIu64 " %" PRIu64, in_award(a, bid, BOCCELARCH_BIDDER), in_award(a, bid, BOCCELARCH_SEGMENT),
+               in_award(a, bid, BOCCELARCH_QUANTITY));
+        append(sheet, " %" PRIu64 " %" PRIu64 " (without ", in_award(a, bid, BOCCELARCH_PRICE), in_award(a, bid, BOCCELARCH_SAMPLE));
+        if (in_award(a, bid, BOCCELARCH_COVERED))
+            append(sheet, "%" PRIu64 "))\n", in_award(a, bid, BOCCELARCH_WITHOUT));
+        else
+            append(sheet, "none))\n");
+    }
+}
+
+static uint64_t sum(const struct answers *a, enum boccelarch_column column)
+{
+    uint64_t bid, all = 0;
+
+    for (bid = 0; bid < BIDS; bid++)
+        all += in_award(a, bid, column);
+    return all;
+}
+
+static void check_answers(const struct answers *a, uint64_t demand, uint64_t total, uint64_t covered)
+{
+    static struct text sheet;
+
+    expect_accepted("sheet", a->sheet.number, a->sheet.place);
+    expect_accepted("award", a->award.number, a->award.place);
+    expect_accepted("book written out", a->written.number, a->written.place);
+    expect_accepted("room figure", a->room.number, a->room.place);
+    expect_accepted("split", a->split.number, a->split.place);
+
+    make_sheet(&sheet, demand, a);
+    expect_text("sheet", &sheet, a->sheet.out, a->sheet.bytes);
+    expect_text("book written out", a->book, a->written.out, a->written.bytes);
+    expect_number("room figure", ROOM, a->room.bytes);
+    expect_number("bids", BIDS, a->award.count);
+    expect_number("quantities", demand, sum(a, BOCCELARCH_QUANTITY));
+    expect_number("total", total, a->award.total);
+    expect_number("prices", a->award.total, sum(a, BOCCELARCH_PRICE));
+    expect_number("bidders who are not needed", covered, sum(a, BOCCELARCH_COVERED));
+    expect_number("price of the split", a->award.total, (uint64_t)a->split.price);
+    expect_number("split meets the demand", 1, a->split.meets);
+}
+
+/* `covered`: without how many of the bidders, each taken out alone, the demand is covered. */
+static void check_book(uint64_t demand, uint64_t total, uint64_t covered)
+{
+    static struct text book;
+    static struct answers answers;
+
+    make_book(&book, demand);
+    answers.book = &book;
+    snprintf(situation, sizeof situation, "demand %" PRIu64, demand);
+    call_entries_in_thread(&answers);
+    check_answers(&answers, demand, total, covered);
+}
+
+int main(void)
+{
+    setvbuf(stdout, NULL, _IOLBF, 0); /* the lines of failures stand even if a call ends the program */
+    /* The totals are those of the cheapest price of each quantity, found with one bid more after another. */
+    check_book(35000, 13504960, 8);
+    check_book(106500, 41491240, 4); /* of 121,680 that the bids sell together; the fourth sells 15,180, the fifth 15,240 */
+    printf("%lu passed, %lu failed\n", passed, failed);
+    return failed > 0;
+}
