@@ -5,20 +5,10 @@ use mathlib.Core.List.{List}
 use mathlib.Core.Path.{_≡_, refl, sym, ap, _∙_, subst}
 use Rattle.refusal.specs.declared.Verdict.{Verdict}
 use Rattle.refusal.specs.declared.Verdict.the-variants.{Accepted, Refused}
-use Rattle.book.specs.Entries.{BookEntries}
-use Rattle.book.proofs.Accepted.{book-accepted}
 use Rattle.reader.specs.Reading.{readOf}
 use Rattle.clearing.specs.declared.Clearing.{Clearing}
-use Rattle.clearing.specs.Clearing.{awardRecord, clearOf}
-use Rattle.cleared.proofs.Answers.{cleared}
+use Rattle.cleared.proofs.Counts.{few-rows}
 use Rattle.tender.specs.FromText.{bookOf, clearText}
-
-few-rows : (b : BookEntries) → clearOf b .verdict ≡ Accepted → clearOf b .award .count ≤ 8
-unfolding awardRecord
-few-rows b h =
-    let a = cleared b h in
-    let count : clearOf b .award .count ≡ b .count = ap (λ (c : Clearing). c .award .count) (a .answer) in
-    omega (arith, book-accepted b (a .accepted) .count-high)
 
 pub few : (t : List ℕ) → clearText t .verdict ≡ Accepted → clearText t .award .count ≤ 8
 unfolding clearText

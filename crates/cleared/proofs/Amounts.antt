@@ -21,9 +21,9 @@ use Rattle.book.specs.Entries.{BidEntries, BookEntries, bidEntries, bookEntries
 use Rattle.book.specs.Rules.{bookVerdict}
 use Rattle.book.proofs.Records.{noBid}
 use Rattle.book.proofs.InRange.{mostBlanks, mostCents}
-use Rattle.book.proofs.Bids.{length-entries, entry-at}
+use Rattle.book.proofs.Bids.{entry-at}
 use Rattle.book.proofs.Accepted.{AcceptedBid, book-accepted, all-accepted, accepted-at}
-use Rattle.supply.specs.Supply.{supplyOf, suppliesOf, on, offers, numberFrom, segmentNumber}
+use Rattle.supply.specs.Supply.{segment0, supplyOf, suppliesOf, on, offers, numberFrom, segmentNumber}
 use Rattle.supply.proofs.Offers.{supply-small}
 use Rattle.sampling.specs.declared.Band.{Band}
 use Rattle.sampling.specs.Sampling.{printed, sampleAbove, sampleOf}
@@ -36,26 +36,27 @@ use Rattle.award.specs.Award.{rowOf}
 use Rattle.clearing.specs.Clearing.{awardOfBook, bookWithout, totalOf, totalWithout, awardRecord, clearOf}
 use Rattle.cleared.specs.Awarded.{rowAt, awarded}
 use Rattle.cleared.proofs.Answers.{cleared}
+use Rattle.cleared.proofs.Counts.{few-bids, bids-within, bids-counted}
 use Rattle.cleared.proofs.Costs.{UpTo, price-up-to, mostTotal, award-up-to}
 use Rattle.cleared.proofs.Demand3.{award-of-book, no-other-cheaper, row-is}
 
-number-small : (n : ℕ) (ss : List Segment) (r : ℕ) → numberFrom n ss r ≤ n + length ss
+either-small : (t : Bool) (m n most : ℕ) → m ≤ most → n ≤ most → cond t m n ≤ most
+either-small true m n most h k = h
+either-small false m n most h k = k
+
+-- where the first segment has the number n, the last has n and as many more as follow the first
+number-small : (n : ℕ) (s : Segment) (ss : List Segment) (r : ℕ) → numberFrom n (s ∷ ss) r ≤ n + length ss
 unfolding numberFrom
-number-small n [] r = omega arith
-number-small n (s ∷ ss) r = go (on s r) (number-small (n + 1) ss r)
-  where
-    go : (t : Bool) → numberFrom (n + 1) ss r ≤ n + 1 + length ss → cond t n (numberFrom (n + 1) ss r) ≤ n + length (s ∷ ss)
-    go true h = omega arith
-    go false h = omega arith
+number-small n s [] r = either-small (on s r) n 0 (n + 0) (omega arith) (omega arith)
+number-small n s (next ∷ ss) r =
+    either-small (on s r) n (numberFrom (n + 1) (next ∷ ss) r) (n + length (next ∷ ss)) (omega arith) (omega (arith, number-small (n + 1) next ss r))
 
 sample-small : (most before : ℕ) (bands : List Band) (q : ℕ) → All (λ (b : Band). leb (b .sample) most ≡ true) bands → sampleAbove before bands q ≤ most
 unfolding sampleAbove
 sample-small most before [] q h = omega arith
-sample-small most before (b ∷ bs) q h = go (ltb before q && leb q (b .highest)) (sample-small most (b .highest) bs q (h .1))
-  where
-    go : (t : Bool) → sampleAbove (b .highest) bs q ≤ most → cond t (b .sample) (sampleAbove (b .highest) bs q) ≤ most
-    go true rest = leb-true (b .sample) most (h .0)
-    go false rest = rest
+sample-small most before (b ∷ bs) q h =
+    either-small (ltb before q && leb q (b .highest)) (b .sample) (sampleAbove (b .highest) bs q) most (leb-true (b .sample) most (h .0))
+    (sample-small most (b .highest) bs q (h .1))
 
 printed-small : (q : ℕ) → sampleOf printed q ≤ 1250
 unfolding sampleOf printed every
@@ -77,7 +78,7 @@ TotalUpTo most Nothing = Unit {0}
 -- the numbers of a row: no amount is negative
 pub record RowUpTo (row : Row) : Type 0 where
   pub bidder : row .bidder ≤ 9999
-  pub segment : row .segment ≤ 7
+  pub segment : row .segment ≤ 6
   pub quantity : row .quantity .0 ≤ mostBlanks
   pub price : UpTo mostCents (row .price .0)
   pub sample : row .sample .0 ≤ 1250
@@ -88,7 +89,7 @@ row-up-to : (b : BidEntries) (r : ℕ) (t : Total) → AcceptedBid b → length 
 unfolding rowOf segmentNumber
 row-up-to b r t a few o total = record {
   bidder = a .bidder-high;
-  segment = omega (arith, number-small 0 (supplyOf b) r);
+  segment = omega (arith, number-small 0 segment0 (b .segments) r);
   quantity = supply-small b r (a .ranges) o .quantity;
   price = price-up-to b r a o;
   sample = printed-small r;
@@ -115,13 +116,8 @@ module _ (book : Book) (held : length (book .bids) ≡ 8) (accepted : clearOf (b
   is-accepted : bookVerdict b ≡ Accepted
   is-accepted = cleared b accepted .accepted
 
-  few : b .count ≤ 8
-  few = book-accepted b is-accepted .count-high
-
-  complete : length (b .bids) ≡ b .count
-  complete =
-      let within : book .count ≤ length (book .bids) = omega (arith, few) in
-      length-entries (book .bids) (book .count) within
+  few : length (b .bids) ≤ 8
+  few = omega (arith, few-bids b is-accepted, bids-counted book held is-accepted)
 
   bids : All AcceptedBid (b .bids)
   bids = all-accepted b is-accepted
@@ -132,11 +128,11 @@ module _ (book : Book) (held : length (book .bids) ≡ 8) (accepted : clearOf (b
   demand-up-to = rw (cleared b accepted .answer) (book-accepted b is-accepted .demand-high)
 
   pub total-from-zero : UpTo mostTotal (clearOf b .award .total .0)
-  total-from-zero = award-up-to b bids (omega (arith, few, complete)) (awarded (clearOf b .award)) (no-other-cheaper book held accepted)
+  total-from-zero = award-up-to b bids few (awarded (clearOf b .award)) (no-other-cheaper book held accepted)
 
   segments-few : (i : ℕ) → i < b .count → length (getD (b .bids) i (bidEntries noBid) .segments) ≤ 6
   segments-few i h =
-      let within : book .count ≤ length (book .bids) = omega (arith, few) in
+      let within = bids-within book held is-accepted in
       let bid = getD (book .bids) i noBid in
       let a : AcceptedBid (bidEntries bid) = accepted-at (book .bids) (book .count) within bids i h in
       let short = take-most (bid .count) (bid .segments) .0 in
@@ -145,10 +141,10 @@ module _ (book : Book) (held : length (book .bids) ≡ 8) (accepted : clearOf (b
   pub rows-up-to : (i : ℕ) → i < b .count → RowUpTo (rowAt (clearOf b .award) i)
   rows-up-to i h =
       let bid : BidEntries = getD (b .bids) i (bidEntries noBid) in
-      let within : i < length (b .bids) = omega (arith, complete) in
+      let within : i < length (b .bids) = omega (arith, bids-counted book held is-accepted) in
       let quantities = awarded (clearOf b .award) .quantities in
       let offered = offered-at (b .bids) quantities (bidEntries noBid) (no-other-cheaper book held accepted .division .allocation) i within in
       let row =
       row-up-to bid (getD quantities i 0) (totalWithout b i) (all-at AcceptedBid (bidEntries noBid) (b .bids) bids i within) (segments-few i h) offered
-      (without-up-to b bids (omega (arith, few, complete)) i) in
+      (without-up-to b bids few i) in
       subst RowUpTo (sym (row-is book held accepted i h)) row

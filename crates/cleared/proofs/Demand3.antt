@@ -18,7 +18,6 @@ use Rattle.book.specs.declared.Book.{Book}
 use Rattle.book.specs.Entries.{BidEntries, BookEntries, bidEntries, bookEntries}
 use Rattle.book.specs.Rules.{bookVerdict}
 use Rattle.book.proofs.Records.{noBid}
-use Rattle.book.proofs.Bids.{length-entries}
 use Rattle.book.proofs.Accepted.{book-accepted, all-accepted}
 use Rattle.supply.specs.Supply.{supplyOf, suppliesOf, on, offers, priceAt}
 use Rattle.supply.specs.Allocation.{total}
@@ -40,6 +39,7 @@ use Rattle.cleared.specs.Awarded.{rowAt, awarded}
 use Rattle.cleared.proofs.Apart.{accepted-refused, amount-nothing}
 use Rattle.cleared.proofs.Rows.{record-awarded, record-row, record-past}
 use Rattle.cleared.proofs.Answers.{Cleared, cleared}
+use Rattle.cleared.proofs.Counts.{few-bids, bids-counted}
 
 module _ (b : BookEntries) where
   pub award-of-book : (award : Priced) → awardOfBook b ≡ some award → IsAwardOf b award
@@ -109,14 +109,6 @@ module _ (book : Book) (held : length (book .bids) ≡ 8) where
   abbrev answer : Clearing
   answer = clearOf b
 
-  few : bookVerdict b ≡ Accepted → b .count ≤ 8
-  few e = book-accepted b e .count-high
-
-  complete : bookVerdict b ≡ Accepted → length (b .bids) ≡ b .count
-  complete e =
-      let within : book .count ≤ length (book .bids) = omega (arith, few e) in
-      length-entries (book .bids) (book .count) within
-
   module _ (accepted : answer .verdict ≡ Accepted) where
     c : Cleared b
     c = cleared b accepted
@@ -128,7 +120,9 @@ module _ (book : Book) (held : length (book .bids) ≡ 8) where
     many = as-many (suppliesOf (b .bids)) (c .award .quantities) (is-award .division .allocation) ∙ length-map (b .bids) _
 
     says : awarded (answer .award) ≡ c .award
-    says = ap (λ (x : Clearing). awarded (x .award)) (c .answer) ∙ record-awarded b (few (c .accepted)) (complete (c .accepted)) (c .award) many
+    says =
+        ap (λ (x : Clearing). awarded (x .award)) (c .answer)
+        ∙ record-awarded b (few-bids b (c .accepted)) (bids-counted book held (c .accepted)) (c .award) many
 
     -- the award is one of the divisions, every other division costs more, or costs the same and gives less to the first bidder at
     -- whom the two differ; the total is its cost
@@ -140,13 +134,13 @@ module _ (book : Book) (held : length (book .bids) ≡ 8) where
         → rowAt (answer .award) i ≡ rowOf (getD (b .bids) i (bidEntries noBid)) (getD (awarded (answer .award) .quantities) i 0) (totalWithout b i)
     row-is i h =
         ap (λ (x : Clearing). rowAt (x .award) i) (c .answer)
-        ∙ record-row b (few (c .accepted)) (complete (c .accepted)) (c .award) many (bidEntries noBid) i h
+        ∙ record-row b (few-bids b (c .accepted)) (bids-counted book held (c .accepted)) (c .award) many (bidEntries noBid) i h
         ∙ ap (λ (d : Priced). rowOf (getD (b .bids) i (bidEntries noBid)) (getD (d .quantities) i 0) (totalWithout b i)) (sym says)
 
     pub past-rows : (i : ℕ) → b .count ≤ i → rowAt (answer .award) i ≡ noRow
     past-rows i h =
         ap (λ (x : Clearing). rowAt (x .award) i) (c .answer)
-        ∙ record-past b (few (c .accepted)) (complete (c .accepted)) (c .award) many i h
+        ∙ record-past b (few-bids b (c .accepted)) (bids-counted book held (c .accepted)) (c .award) many i h
 
     -- the total shown without a bidder is that of the award of the other bids
     pub without-is : (i : ℕ) → i < b .count → rowAt (answer .award) i .without ≡ totalOf (awardOfBook (bookWithout i b))
@@ -174,7 +168,7 @@ module _ (book : Book) (held : length (book .bids) ≡ 8) where
     -- where no other bid is left, it is `none`
     nobody-left : b .count ≡ 1 → bookWithout 0 b .bids ≡ []
     unfolding bookWithout
-    nobody-left one = let l : length (b .bids) ≤ 1 = omega (arith, complete (c .accepted)) in drop-of-length-le (b .bids) l
+    nobody-left one = let l : length (b .bids) ≤ 1 = omega (arith, bids-counted book held (c .accepted)) in drop-of-length-le (b .bids) l
 
     pub none-without-sole : b .count ≡ 1 → rowAt (answer .award) 0 .without ≡ Nothing
     unfolding bookWithout
@@ -188,7 +182,7 @@ module _ (book : Book) (held : length (book .bids) ≡ 8) where
     unfolding awardOfBook bookWithout
     left-award i h e =
         let supplies = suppliesOf (b .bids) in
-        let bidder : i < length supplies = omega (arith, complete (c .accepted), length-map (b .bids) supplyOf) in
+        let bidder : i < length supplies = omega (arith, bids-counted book held (c .accepted), length-map (b .bids) supplyOf) in
         ap (awardOf (b .demand)) (map-removed supplyOf i (b .bids))
         ∙ same-award (b .demand) supplies (all-map supplyOf SellsNothing (b .bids) (all-any _ sells-nothing (b .bids))) i bidder (c .award) (c .is-award) e
 

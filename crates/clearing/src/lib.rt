@@ -23,7 +23,8 @@ pub struct Clearing {
     pub award: Award,
 }
 
-fn refused(verdict: Verdict) -> Clearing
+// A refusal, with no award beside it. It is pub for the clearing of texts.
+pub fn refused(verdict: Verdict) -> Clearing
     ensures { λ r. ⌜ r ≡ refusedClearing verdict ⌝ }
 {
     let award = award::no_award();

@@ -1,16 +1,17 @@
 // Outputs of several lengths: what is written, and that the rest is unchanged. Room figures.
+use crate::books;
+
 pub fn run() {
     report::text(b"outputs:\n");
-    let book =
-        b"(demand 120)\n(bid 3 (seg 1 60 400 0) (seg 61 100 350 -500))\n(bid 8 (seg 20 80 380 1000))\n(bid 12 (seg 120 120 370 0))\n";
-    sheets(book);
+    let book = books::first();
+    sheets(&book);
     sheet(
         b"not covered, and no room",
         b"(demand 119)\n(bid 12 (seg 120 120 370 0))\n",
         &mut [],
     );
-    books(book);
-    room(b"room figure", book);
+    books(&book);
+    room(b"room figure", &book);
     room(
         b"room figure of a broken book",
         b"(demand 0)\n(bid 3 (seg 1 60 400 0))\n",

@@ -1,4 +1,6 @@
 // Prices of proposed splits, from a text.
+use crate::books;
+
 pub fn run() {
     report::text(b"splits:\n");
     of_the_book();
@@ -8,10 +10,8 @@ pub fn run() {
 
 // A split of document 01's book.
 fn proposed(name: &[u8], quantities: &[u64]) {
-    let s = tender::price_split(
-        b"(demand 120)\n(bid 3 (seg 1 60 400 0) (seg 61 100 350 -500))\n(bid 8 (seg 20 80 380 1000))\n(bid 12 (seg 120 120 370 0))\n",
-        quantities,
-    );
+    let book = books::first();
+    let s = tender::price_split(&book, quantities);
     report::split(name, s);
 }
 

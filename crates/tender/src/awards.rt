@@ -1,16 +1,8 @@
 // The award of a text.
 ghost use mathlib.Core.Path.{_≡_};
-ghost use Rattle.clearing.specs.Clearing.{refusedClearing};
 ghost use Rattle.tender.specs.FromText.{clearText};
 use clearing::Clearing;
 use refusal::Verdict;
-
-fn refused(verdict: Verdict) -> Clearing
-    ensures { λ r. ⌜ r ≡ refusedClearing verdict ⌝ }
-{
-    let award = award::no_award();
-    Clearing { verdict, award }
-}
 
 // The award of a text's book.
 pub fn clear(text: &[u8]) -> Clearing
@@ -19,7 +11,7 @@ pub fn clear(text: &[u8]) -> Clearing
     let read = reader::read(text);
     let verdict = read.verdict;
     if let Verdict::Refused(_, _) = verdict {
-        return refused(verdict);
+        return clearing::refused(verdict);
     }
     let book = read.book;
     clearing::clear(book)
