@@ -47,12 +47,18 @@ module _ (t out : List ℕ) where
       (sheetWritten t (length out) ≡ record { verdict = Accepted; bytes = length (sheetText a) }) × (sheetOutput t out ≡ written out 0 (sheetText a))
 
   pub data Outcome : Type 0 where
+    -- 1: it is longer than 4,096 bytes
     too-long : 4096 < length t → NoSheet TextLength 4096 → Outcome
+    -- 2: no book has this text
     not-of-shape : (place : ℕ) → NotOfShape t place → NoSheet Shape place → Outcome
+    -- 3 to 8: its book breaks a rule
     broken : (b : BookEntries) → TextSays t b → (rule : Rule) (line : ℕ) → textVerdict b ≡ Refused rule line → NoSheet rule line → Outcome
+    -- 9: its book has no division
     not-covered : (b : BookEntries) → AcceptedText t b → ((rs : List ℕ) → DivisionOf b rs → ⊥) → NoSheet NotCovered 0 → Outcome
+    -- 10: the award's sheet is longer than the output
     output-short : (b : BookEntries) → AcceptedText t b → (a : Award) → TheAward b a → length out < length (sheetText a)
         → NoSheet OutputLength (length (sheetText a)) → Outcome
+    -- the award's sheet
     sheet : (b : BookEntries) → AcceptedText t b → (a : Award) → TheAward b a → length (sheetText a) ≤ length out → SheetOf a → Outcome
 
 -- What the program `clear` prints for a text: the sheet of the award, or the line of the refusal that the text gets in every output.
