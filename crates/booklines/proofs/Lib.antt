@@ -1,2 +1,2 @@
 mod Collecting
-mod Parts
+pub mod Parts

@@ -1,7 +1,7 @@
 // The lines of a bid book, parsed into a record: the demand, and the bids.
 ghost use Prim.Native.Nat.{_≤_};
 ghost use lib.ListN.{length};
-ghost use Rattle.booklines.specs.Parses.{ParsesBid, ParsesBids, ParsesBook};
+ghost use Rattle.booklines.specs.Parses.{ParsesDemand, ParsesBid, ParsesBids};
 
 // The segments of a bid. The module is private: what is pub in it serves this crate alone.
 mod segments;
@@ -9,6 +9,7 @@ mod segments;
 use book::Book;
 use money::Blanks;
 use scanner::Cursor;
+use scanner::ParsedNumber;
 use segments::ParsedBid;
 
 // A record, and where parsing stands after it. Where it has stopped, the record is of no meaning.
@@ -33,7 +34,7 @@ fn bid(text: &[u8], from: Cursor) -> ParsedBid
 }
 
 // One or more bids, kept in a record with the demand.
-fn bids(text: &[u8], from: Cursor, demand: u64) -> ParsedBook
+pub fn bids(text: &[u8], from: Cursor, demand: u64) -> ParsedBook
     requires { ⌜ from .at ≤ length (now text) ⌝ }
     ensures { λ r. ⌜ ParsesBids (now (text .entry)) from demand (r .book) (r .next) ⌝ }
 {
@@ -53,19 +54,12 @@ fn bids(text: &[u8], from: Cursor, demand: u64) -> ParsedBook
     ParsedBook { book, next }
 }
 
-// The whole book, from the text's first byte on. It is pub for the reader.
-pub fn book(text: &[u8]) -> ParsedBook
-    ensures { λ r. ⌜ ParsesBook (now (text .entry)) (r .book) (r .next) ⌝ }
+// The demand's line. It is pub, as `bids` is, for the reader.
+pub fn demand(text: &[u8], from: Cursor) -> ParsedNumber
+    requires { ⌜ from .at ≤ length (now text) ⌝ }
+    ensures { λ r. ⌜ ParsesDemand (now (text .entry)) from (r .value) (r .next) ⌝ }
+    ensures { λ r. ⌜ r .next .at ≤ length (now (text .entry)) ⌝ }
 {
-    let open = scanner::word(
-        text,
-        Cursor {
-            at: 0,
-            stopped: false,
-        },
-        b"(demand ",
-    );
-    let demand = scanner::field(text, open, b")\n");
-    let after_demand = demand.next;
-    bids(text, after_demand, demand.value)
+    let open = scanner::word(text, from, b"(demand ");
+    scanner::field(text, open, b")\n")
 }

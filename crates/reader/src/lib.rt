@@ -1,6 +1,9 @@
 // Reading a bid book from its text.
 ghost use mathlib.Core.Path.{_≡_};
 ghost use Rattle.reader.specs.Reading.{readOf, refusedAnswer};
+// The reader struct. The module is private: what is pub in it serves this crate alone.
+mod reading;
+
 use book::Book;
 use refusal::Rule;
 use refusal::Verdict;
@@ -27,7 +30,7 @@ pub fn read(text: &[u8]) -> BookRead
     if 4_096 < text.len() {
         return refused(Rule::TextLength, 4_096);
     }
-    let parsed = booklines::book(text);
+    let parsed = reading::book(text);
     let next = parsed.next;
     if next.stopped {
         return refused(Rule::Shape, next.at as u64);
