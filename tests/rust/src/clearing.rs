@@ -1,0 +1,120 @@
+//! The award, by dynamic programming over quantities: for the bidders from each one on, and for each quantity, the least price.
+//!
+//! No choice of segments is listed or filled, and nothing is supposed about how many bidders stand inside a segment.
+
+use crate::book::{Bid, Book, Segment};
+use std::collections::VecDeque;
+
+#[derive(Clone, Debug, PartialEq)]
+pub struct Award {
+    pub total: i64,
+    pub quantities: Vec<i64>,
+    pub without: Vec<Option<i64>>,
+}
+
+/// Above every price; stands where no allocation gives the quantity.
+const NO_WAY: i64 = i64::MAX;
+
+/// The least price of each quantity from no bidder at all.
+fn nobody(demand: i64) -> Vec<i64> {
+    let mut least = vec![NO_WAY; demand as usize + 1];
+    least[0] = 0;
+    least
+}
+
+/// Lowers `least` by what buying a quantity on this segment, and the rest from the bidders after it, costs.
+///
+/// With k blanks from those after it, q cost unit × q + fixed + (rest[k] − unit × k): for each q the least of the brackets over
+/// k from q − end to q − start, a window that slides with q.
+fn lower(least: &mut [i64], rest: &[i64], segment: &Segment) {
+    let (start, end) = (segment.start as usize, segment.end as usize);
+    let mut window: VecDeque<(i64, usize)> = VecDeque::new();
+    for (quantity, least) in least.iter_mut().enumerate().skip(start) {
+        let entering = quantity - start;
+        if rest[entering] != NO_WAY {
+            let bracket = rest[entering] - segment.unit * entering as i64;
+            while window.back().is_some_and(|last| last.0 >= bracket) {
+                window.pop_back();
+            }
+            window.push_back((bracket, entering));
+        }
+        while window.front().is_some_and(|first| first.1 + end < quantity) {
+            window.pop_front();
+        }
+        if let Some(first) = window.front() {
+            let price = segment.price(quantity as i64) + first.0;
+            *least = price.min(*least);
+        }
+    }
+}
+
+fn with_bidder(bid: &Bid, rest: &[i64]) -> Vec<i64> {
+    let mut least = rest.to_vec();
+    for segment in &bid.segments {
+        lower(&mut least, rest, segment);
+    }
+    least
+}
+
+/// The least prices for the bidders from each one on, the last list for none.
+fn layers(bids: &[Bid], demand: i64) -> Vec<Vec<i64>> {
+    let mut backward = vec![nobody(demand)];
+    for bid in bids.iter().rev() {
+        let least = with_bidder(bid, &backward[backward.len() - 1]);
+        backward.push(least);
+    }
+    backward.reverse();
+    backward
+}
+
+/// The least price of the demand, nothing where no allocation meets it.
+fn total<'a>(bids: impl DoubleEndedIterator<Item = &'a Bid>, demand: i64) -> Option<i64> {
+    let least = bids.rev().fold(nobody(demand), |rest, bid| with_bidder(bid, &rest));
+    Some(least[demand as usize]).filter(|&price| price != NO_WAY)
+}
+
+/// The greatest quantity of this bidder with which the least price is still reached.
+fn greatest(bid: &Bid, wanted: i64, price: i64, rest: &[i64]) -> i64 {
+    let reaches = |quantity: &i64| {
+        let others = rest[(wanted - quantity) as usize];
+        let own = bid.price(*quantity).expect("a quantity on a segment");
+        others != NO_WAY && own + others == price
+    };
+    for segment in bid.segments.iter().rev() {
+        let end = segment.end.min(wanted);
+        if let Some(quantity) = (segment.start..=end).rev().find(reaches) {
+            return quantity;
+        }
+    }
+    0
+}
+
+fn quantities(bids: &[Bid], demand: i64, layers: &[Vec<i64>]) -> Vec<i64> {
+    let mut wanted = demand;
+    let mut given = Vec::new();
+    for (index, bid) in bids.iter().enumerate() {
+        let price = layers[index][wanted as usize];
+        let quantity = greatest(bid, wanted, price, &layers[index + 1]);
+        wanted -= quantity;
+        given.push(quantity);
+    }
+    given
+}
+
+fn total_without(book: &Book, absent: usize) -> Option<i64> {
+    let all = book.bids.iter().enumerate();
+    let left: Vec<&Bid> = all.filter(|bid| bid.0 != absent).map(|bid| bid.1).collect();
+    total(left.into_iter(), book.demand)
+}
+
+/// The award of an accepted book, nothing where it is not covered.
+pub fn award(book: &Book) -> Option<Award> {
+    let layers = layers(&book.bids, book.demand);
+    let total = layers[0][book.demand as usize];
+    if total == NO_WAY {
+        return None;
+    }
+    let quantities = quantities(&book.bids, book.demand, &layers);
+    let without = (0..book.bids.len()).map(|absent| total_without(book, absent));
+    Some(Award { total, quantities, without: without.collect() })
+}

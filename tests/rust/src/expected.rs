@@ -1,0 +1,108 @@
+//! What the paper and the header say that each call gives for a text.
+
+use crate::book::{refusal, Book, Refusal};
+use crate::clearing::{self, Award};
+use crate::entries::{pattern, Answer, Call};
+use crate::shape::Shape;
+use crate::sheet;
+use std::cell::OnceCell;
+
+/// A text read once, and its award once somebody asks for it.
+pub struct Judged {
+    pub reading: Result<Book, Refusal>,
+    cleared: OnceCell<Result<(Book, Award), Refusal>>,
+}
+
+impl Judged {
+    pub fn new(shape: &Shape, text: &[u8]) -> Self {
+        Judged { reading: Book::read(shape, text), cleared: OnceCell::new() }
+    }
+
+    /// The book and its award, or the refusal: those of the text, then 9.
+    pub fn cleared(&self) -> Result<&(Book, Award), Refusal> {
+        let clear = || {
+            let book = self.reading.clone()?;
+            let award = clearing::award(&book).ok_or(refusal(9, 0))?;
+            Ok((book, award))
+        };
+        self.cleared.get_or_init(clear).as_ref().map_err(|refused| *refused)
+    }
+
+    /// The award, if some call asked for it and there is one.
+    pub fn known_award(&self) -> Option<&Award> {
+        let cleared = self.cleared.get()?.as_ref();
+        cleared.ok().map(|both| &both.1)
+    }
+
+    fn book(&self) -> Result<&Book, Refusal> {
+        self.reading.as_ref().map_err(|refused| *refused)
+    }
+
+    pub fn sheet(&self) -> Result<Vec<u8>, Refusal> {
+        let (book, award) = self.cleared()?;
+        let sheet = sheet::sheet(book, award);
+        assert!(sheet.len() <= 600, "600 bytes hold every sheet");
+        Ok(sheet)
+    }
+
+    pub fn written(&self) -> Result<Vec<u8>, Refusal> {
+        let book = self.book()?;
+        let text = book.written();
+        assert!(text.len() as u64 <= book.room(), "the room figure is the most that a text takes");
+        Ok(text)
+    }
+
+    pub fn answer(&self, call: &Call) -> Answer {
+        match call {
+            Call::Sheet(length) => put_down(self.sheet(), *length, |bytes| [bytes, 0]),
+            Call::Write(length) => put_down(self.written(), *length, |bytes| [bytes, 0]),
+            Call::Room => bare(self.book().map(|book| [book.room(), 0])),
+            Call::Split(list) => bare(self.split(list)),
+            Call::Award(length) => self.award(*length),
+        }
+    }
+
+    fn split(&self, list: &[u64]) -> Result<[u64; 2], Refusal> {
+        let (price, meets) = self.book()?.split(list)?;
+        Ok([price as u64, u64::from(meets)])
+    }
+
+    fn award(&self, length: usize) -> Answer {
+        let numbers = self.cleared().map(|(book, award)| sheet::numbers(book, award));
+        let bytes = numbers.map(|all| all.iter().flat_map(|n| n.to_ne_bytes()).collect());
+        put_down(bytes, 8 * length, |_| {
+            let (book, award) = self.cleared().expect("nothing is refused");
+            [award.total as u64, book.bids.len() as u64]
+        })
+    }
+}
+
+fn refused(by: Refusal, length: usize) -> Answer {
+    let output = pattern(length);
+    Answer { refusal: by.number, place: by.place, numbers: [0, 0], output, rest_unchanged: true }
+}
+
+/// The answer of a call without an output.
+fn bare(numbers: Result<[u64; 2], Refusal>) -> Answer {
+    match numbers {
+        Err(by) => refused(by, 0),
+        Ok(numbers) => Answer { refusal: 0, place: 0, numbers, output: Vec::new(), rest_unchanged: true },
+    }
+}
+
+/// The answer of a call that writes `bytes` to an output of `length` bytes; `numbers` is given how many they are.
+fn put_down(bytes: Result<Vec<u8>, Refusal>, length: usize, numbers: impl Fn(u64) -> [u64; 2]) -> Answer {
+    let fitting = bytes.and_then(|bytes| match bytes.len() <= length {
+        true => Ok(bytes),
+        false => Err(refusal(10, bytes.len())),
+    });
+    match fitting {
+        Err(by) => refused(by, length),
+        Ok(bytes) => {
+            let mut output = pattern(length);
+            output[..bytes.len()].copy_from_slice(&bytes);
+            let numbers = numbers(bytes.len() as u64);
+            Answer { refusal: 0, place: 0, numbers, output, rest_unchanged: true }
+        }
+    }
+}

@@ -1,0 +1,82 @@
+//! The calls made on a text, chosen once it is known what they should give.
+
+use super::splits;
+use crate::entries::Call;
+use crate::expected::Judged;
+use crate::random::Random;
+
+/// A length around the one needed.
+fn around(random: &mut Random, needed: usize) -> usize {
+    match random.below(8) {
+        0 => random.below(2),
+        1 => random.below(needed + 1),
+        2 => needed - 1,
+        _ => needed.saturating_sub(2) + random.below(5),
+    }
+}
+
+/// Each entry for a text that is refused in reading.
+fn on_refused(random: &mut Random) -> Vec<Call> {
+    let length = random.pick(&[600, 600, 4096, 100, 1, 0]);
+    let rows = random.pick(&[56, 56, 7, 1, 0]);
+    let list = splits::any(random);
+    vec![Call::Sheet(length), Call::Write(length), Call::Room, Call::Split(list), Call::Award(rows)]
+}
+
+/// Each entry once with room for everything, and once more with a length around the one needed or another split.
+pub fn usual(random: &mut Random, judged: &Judged) -> Vec<Call> {
+    let Ok(book) = &judged.reading else { return on_refused(random) };
+    let written = judged.written().expect("an accepted book").len();
+    let sheet = judged.sheet().map_or(50, |bytes| bytes.len());
+    let rows = 7 * book.bids.len();
+    let mut calls = vec![
+        Call::Sheet(600),
+        Call::Sheet(around(random, sheet)),
+        Call::Write(random.pick(&[4096, book.room() as usize])),
+        Call::Write(around(random, written)),
+        Call::Room,
+        Call::Award(56),
+        Call::Award(around(random, rows)),
+    ];
+    for _ in 0..2 {
+        let kind = random.below(splits::KINDS);
+        calls.push(Call::Split(splits::of_kind(random, judged, book, kind)));
+    }
+    calls
+}
+
+/// Each entry once: for books that take the product seconds.
+pub fn once(random: &mut Random, judged: &Judged) -> Vec<Call> {
+    let Ok(book) = &judged.reading else { return on_refused(random) };
+    let split = splits::of_kind(random, judged, book, 0);
+    vec![Call::Sheet(600), Call::Write(4096), Call::Room, Call::Split(split), Call::Award(56)]
+}
+
+/// The entries that do not clear, with each kind of split.
+pub fn without_clearing(random: &mut Random, judged: &Judged) -> Vec<Call> {
+    let Ok(book) = &judged.reading else { return on_refused(random) };
+    let written = judged.written().expect("an accepted book").len();
+    let mut calls = vec![Call::Write(4096), Call::Write(around(random, written)), Call::Room];
+    for kind in 3..splits::KINDS {
+        calls.push(Call::Split(splits::of_kind(random, judged, book, kind)));
+    }
+    calls
+}
+
+/// Every length from 0 to 8 above the one needed, for the sheet, the book written again and the award.
+pub fn every_length(judged: &Judged) -> Vec<Call> {
+    let sheet = judged.sheet().map_or(60, |bytes| bytes.len());
+    let written = judged.written().map_or(60, |bytes| bytes.len());
+    let rows = judged.reading.as_ref().map_or(7, |book| 7 * book.bids.len());
+    let sheets = (0..=sheet + 8).map(Call::Sheet);
+    let books = (0..=written + 8).map(Call::Write);
+    let awards = (0..=rows + 8).map(Call::Award);
+    sheets.chain(books).chain(awards).collect()
+}
+
+/// Each kind of split, several times.
+pub fn many_splits(random: &mut Random, judged: &Judged) -> Vec<Call> {
+    let Ok(book) = &judged.reading else { return on_refused(random) };
+    let kinds = (0..2 * splits::KINDS).map(|turn| turn % splits::KINDS);
+    kinds.map(|kind| Call::Split(splits::of_kind(random, judged, book, kind))).collect()
+}

@@ -1,0 +1,8 @@
+//! The generated texts and the calls made on them, always the same.
+
+pub mod books;
+pub mod broken;
+pub mod bytes;
+pub mod calls;
+pub mod limits;
+pub mod splits;

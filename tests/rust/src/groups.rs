@@ -1,0 +1,277 @@
+//! The groups of generated texts.
+
+use crate::compare::Comparer;
+use crate::entries::Call;
+use crate::expected::Judged;
+use crate::generate::books::{self, Plan};
+use crate::generate::{broken, bytes, calls, limits};
+use crate::random::Random;
+
+pub type Group = (&'static str, fn(&mut Comparer, &mut Random));
+
+pub const GROUPS: [Group; 24] = [
+    ("the paper's book, every demand", paper_book),
+    ("small books", small_books),
+    ("small books with ties", tied_books),
+    ("four to six segments in a bid", deep_books),
+    ("books with gaps and larger numbers", usual_books),
+    ("books with wide segments", wide_books),
+    ("five to eight bids", many_bids),
+    ("eight bids of six segments", full_books),
+    ("numbers at their limits, small demands", limits_small),
+    ("numbers at their limits, large demands", limits_large),
+    ("numbers at their limits, not cleared", limits_not_cleared),
+    ("large demands", large_books),
+    ("quantities beside each line of the sampling table and each power of ten", sampled),
+    ("one rule broken", one_broken),
+    ("several rules broken", several_broken),
+    ("every edit of one byte, all 256 values", edits_all),
+    ("every edit of one byte, relevant values", edits_relevant),
+    ("several edits", edits_several),
+    ("every beginning of a book", beginnings),
+    ("rubbish bytes", rubbish),
+    ("words and signs in any order", tokens),
+    ("texts beside 4,096 bytes", long_texts),
+    ("outputs of every length", every_length),
+    ("splits of every kind", splits),
+];
+
+const PAPER: &str = "(bid 3 (seg 1 60 400 0) (seg 61 100 350 -500))
+(bid 8 (seg 20 80 380 1000))
+(bid 12 (seg 120 120 370 0))
+";
+
+fn paper_text(demand: u64) -> Vec<u8> {
+    format!("(demand {demand})\n{PAPER}").into_bytes()
+}
+
+fn usual(comparer: &mut Comparer, random: &mut Random, text: &[u8]) {
+    comparer.text(text, |judged| calls::usual(random, judged));
+}
+
+fn paper_book(comparer: &mut Comparer, random: &mut Random) {
+    for demand in 0..=330 {
+        usual(comparer, random, &paper_text(demand));
+    }
+}
+
+fn planned(comparer: &mut Comparer, random: &mut Random, plan: &Plan, count: usize) {
+    for _ in 0..count {
+        let text = books::book(random, plan).written();
+        usual(comparer, random, &text);
+    }
+}
+
+fn small_books(comparer: &mut Comparer, random: &mut Random) {
+    planned(comparer, random, &books::SMALL, 60_000);
+}
+
+fn tied_books(comparer: &mut Comparer, random: &mut Random) {
+    for _ in 0..40_000 {
+        let text = books::tied(random, &books::SMALL).written();
+        usual(comparer, random, &text);
+    }
+}
+
+fn deep_books(comparer: &mut Comparer, random: &mut Random) {
+    planned(comparer, random, &books::DEEP, 5_000);
+    for _ in 0..2_000 {
+        let text = books::tied(random, &books::DEEP).written();
+        usual(comparer, random, &text);
+    }
+}
+
+fn usual_books(comparer: &mut Comparer, random: &mut Random) {
+    planned(comparer, random, &books::USUAL, 20_000);
+}
+
+fn wide_books(comparer: &mut Comparer, random: &mut Random) {
+    planned(comparer, random, &books::WIDE, 4_000);
+}
+
+fn many_bids(comparer: &mut Comparer, random: &mut Random) {
+    planned(comparer, random, &books::MANY, 1_500);
+    for _ in 0..1_500 {
+        let text = books::tied(random, &books::MANY).written();
+        usual(comparer, random, &text);
+    }
+}
+
+fn full_books(comparer: &mut Comparer, random: &mut Random) {
+    for turn in 0..8 {
+        let book = match turn {
+            0..=3 => books::book(random, &books::FULL),
+            4..=5 => books::tied(random, &books::FULL),
+            _ => books::book(random, &books::FULL_LARGE),
+        };
+        comparer.text(&book.written(), |judged| calls::once(random, judged));
+    }
+}
+
+fn limits_small(comparer: &mut Comparer, random: &mut Random) {
+    for _ in 0..8_000 {
+        let text = limits::book(random, 4, &[1, 2, 3, 4, 7]).written();
+        usual(comparer, random, &text);
+    }
+}
+
+fn limits_large(comparer: &mut Comparer, random: &mut Random) {
+    let demands = [999_998, 999_999, 1_000_000, 1_000_000, 500_000, 500_001, 1_000_001];
+    for _ in 0..500 {
+        let text = limits::book(random, 3, &demands).written();
+        usual(comparer, random, &text);
+    }
+    for spare in [-1, 0, 1, 20_000] {
+        usual(comparer, random, &limits::longest(spare).written());
+    }
+}
+
+fn limits_not_cleared(comparer: &mut Comparer, random: &mut Random) {
+    for _ in 0..8_000 {
+        let text = limits::book(random, 8, &[1, 500_000, 1_000_000, 1_000_001, 0]).written();
+        comparer.text(&text, |judged| calls::without_clearing(random, judged));
+    }
+}
+
+fn large_books(comparer: &mut Comparer, random: &mut Random) {
+    planned(comparer, random, &books::LARGE, 300);
+}
+
+/// A quantity bought whole from one bidder; and its price, a number of as many digits as `fixed`, beside that of another bidder.
+fn sampled(comparer: &mut Comparer, random: &mut Random) {
+    let highest = [1, 8, 15, 25, 50, 90, 150, 280, 500, 1_200, 3_200, 10_000, 35_000, 150_000, 500_000, 1_000_000];
+    let powers = [10, 100, 1_000, 10_000, 100_000, 1_000_000];
+    for middle in highest.into_iter().chain(powers) {
+        for quantity in limits::beside(middle) {
+            usual(comparer, random, &limits::bought(quantity, 0).written());
+        }
+    }
+    for digits in 0..=12 {
+        for fixed in limits::beside(10i64.pow(digits)) {
+            usual(comparer, random, &limits::bought(9, fixed).written());
+            usual(comparer, random, &limits::bought(9, -fixed).written());
+        }
+    }
+}
+
+fn one_broken(comparer: &mut Comparer, random: &mut Random) {
+    for turn in 0..24_000 {
+        let text = broken::one(random, 3 + turn % 6).written();
+        usual(comparer, random, &text);
+    }
+}
+
+fn several_broken(comparer: &mut Comparer, random: &mut Random) {
+    for _ in 0..20_000 {
+        let text = broken::several(random).written();
+        usual(comparer, random, &text);
+    }
+}
+
+fn edits_of(comparer: &mut Comparer, random: &mut Random, text: &[u8], values: &[u8]) {
+    for edit in bytes::edits(text, values) {
+        usual(comparer, random, &edit);
+    }
+}
+
+fn edits_all(comparer: &mut Comparer, random: &mut Random) {
+    let all: Vec<u8> = (0..=255).collect();
+    edits_of(comparer, random, b"(demand 7)\n(bid 4 (seg 2 9 3 -5))\n", &all);
+}
+
+fn edits_relevant(comparer: &mut Comparer, random: &mut Random) {
+    let texts: [&[u8]; 3] = [
+        b"(demand 0)\n(bid 0 (seg 0 0 0 0))\n",
+        b"(demand 9999999999999)\n(bid 1 (seg 1 1000000 1000000 -1000000000000))\n",
+        b"(demand 10)\n(bid 1 (seg 1 10 5 0))\n(bid 2 (seg 1 10 5 0) (seg 12 20 4 -48))\n",
+    ];
+    for text in texts {
+        edits_of(comparer, random, text, bytes::RELEVANT);
+    }
+    edits_of(comparer, random, &paper_text(120), b"09 ()-\nes\xff");
+}
+
+fn edits_several(comparer: &mut Comparer, random: &mut Random) {
+    for _ in 0..25_000 {
+        let book = books::book(random, &books::SMALL).written();
+        let text = bytes::edited(random, &book);
+        usual(comparer, random, &text);
+    }
+}
+
+fn beginnings(comparer: &mut Comparer, random: &mut Random) {
+    for plan in [books::SMALL, books::USUAL, books::WIDE, books::MANY, books::FULL] {
+        let text = books::book(random, &plan).written();
+        for length in 0..text.len() {
+            usual(comparer, random, &text[..length]);
+        }
+    }
+    for length in 0..=paper_text(120).len() {
+        usual(comparer, random, &paper_text(120)[..length]);
+    }
+}
+
+fn rubbish(comparer: &mut Comparer, random: &mut Random) {
+    for _ in 0..10_000 {
+        let text = bytes::rubbish(random);
+        usual(comparer, random, &text);
+    }
+}
+
+fn tokens(comparer: &mut Comparer, random: &mut Random) {
+    for _ in 0..25_000 {
+        let text = bytes::tokens(random);
+        usual(comparer, random, &text);
+    }
+}
+
+/// Whole, with a wrong last byte, with one wrong byte elsewhere, cut, and rubbish, of lengths beside 4,096.
+fn long_texts(comparer: &mut Comparer, random: &mut Random) {
+    for length in [4_000, 4_094, 4_095, 4_096, 4_097, 4_098, 5_000, 8_192, 100_000] {
+        for text in bytes::of_length(length) {
+            usual(comparer, random, &text);
+            usual(comparer, random, &bytes::replaced(&text, length - 1, b' '));
+            usual(comparer, random, &text[..length - 1]);
+            for _ in 0..40 {
+                let place = random.below(length);
+                let byte = random.pick(bytes::RELEVANT);
+                usual(comparer, random, &bytes::replaced(&text, place, byte));
+            }
+        }
+        usual(comparer, random, &vec![b'7'; length]);
+        usual(comparer, random, &[b"(demand 5)\n".as_slice(), &vec![0; length - 11]].concat());
+    }
+}
+
+fn lengths_of(comparer: &mut Comparer, text: &[u8]) {
+    comparer.text(text, calls::every_length);
+}
+
+fn every_length(comparer: &mut Comparer, random: &mut Random) {
+    for demand in [19, 60, 61, 120, 181, 300, 301, 0] {
+        lengths_of(comparer, &paper_text(demand));
+    }
+    for _ in 0..150 {
+        lengths_of(comparer, &books::book(random, &books::SMALL).written());
+        lengths_of(comparer, &books::book(random, &books::USUAL).written());
+    }
+    for _ in 0..20 {
+        let book = limits::book(random, 4, &[1, 2]);
+        lengths_of(comparer, &book.written());
+    }
+}
+
+fn splits(comparer: &mut Comparer, random: &mut Random) {
+    for plan in [books::SMALL, books::USUAL, books::MANY] {
+        for _ in 0..2_500 {
+            let text = books::book(random, &plan).written();
+            comparer.text(&text, |judged| calls::many_splits(random, judged));
+        }
+    }
+    comparer.text(&paper_text(120), paper_splits);
+}
+
+fn paper_splits(_: &Judged) -> Vec<Call> {
+    let lists = [vec![60, 60, 0], vec![60, 10, 0], vec![100, 20, 0], vec![60, 60], vec![60, 60, 0, 0]];
+    lists.into_iter().map(Call::Split).collect()
+}

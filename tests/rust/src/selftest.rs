@@ -1,0 +1,224 @@
+//! The check of the reference and of the comparison: the reference against what the paper prints and against a listing of all divisions,
+//! and the comparison against answers that were altered.
+
+use crate::book::{refusal, Bid, Book, Refusal};
+use crate::clearing;
+use crate::compare::Comparer;
+use crate::entries::{Answer, Call};
+use crate::expected::Judged;
+use crate::generate::books;
+use crate::random::Random;
+use crate::shape::Shape;
+
+const BIDS: &str = "(bid 3 (seg 1 60 400 0) (seg 61 100 350 -500))
+(bid 8 (seg 20 80 380 1000))
+(bid 12 (seg 120 120 370 0))
+";
+
+const SHEET: &str = "(award 120 43100)
+(buy 3 2 100 34500 20 (without 44400))
+(buy 8 1 20 8600 5 (without 44400))
+(buy 12 0 0 0 0 (without 43100))
+";
+
+/// The checks done, and those that failed.
+#[derive(Default)]
+struct Checks {
+    done: u64,
+    failed: u64,
+}
+
+impl Checks {
+    fn check(&mut self, name: &str, holds: bool) {
+        self.done += 1;
+        if !holds {
+            self.failed += 1;
+            println!("SELF-TEST FAILED: {name}");
+        }
+    }
+}
+
+fn judged(shape: &Shape, text: &str) -> Judged {
+    Judged::new(shape, text.as_bytes())
+}
+
+fn read(shape: &Shape, text: &str) -> Option<Refusal> {
+    judged(shape, text).reading.err()
+}
+
+/// The quantities and totals printed under "Cases" for the paper's book with other demands.
+fn paper_awards(checks: &mut Checks, shape: &Shape) {
+    let cases: [(i64, [i64; 3], i64); 6] = [
+        (120, [100, 20, 0], 43_100),
+        (19, [19, 0, 0], 7_600),
+        (60, [0, 60, 0], 23_800),
+        (61, [61, 0, 0], 20_850),
+        (181, [61, 0, 120], 65_250),
+        (300, [100, 80, 120], 110_300),
+    ];
+    for (demand, quantities, total) in cases {
+        let case = judged(shape, &format!("(demand {demand})\n{BIDS}"));
+        let award = case.cleared().map(|cleared| cleared.1.clone());
+        let same = award.is_ok_and(|a| a.quantities == quantities && a.total == total);
+        checks.check(&format!("the paper's demand {demand}"), same);
+    }
+    let sheet = judged(shape, &format!("(demand 120)\n{BIDS}")).sheet();
+    checks.check("the paper's sheet", sheet == Ok(SHEET.as_bytes().to_vec()));
+    let uncovered = judged(shape, &format!("(demand 301)\n{BIDS}")).sheet();
+    checks.check("the paper's demand 301", uncovered == Err(refusal(9, 0)));
+    let alone = judged(shape, "(demand 119)\n(bid 12 (seg 120 120 370 0))\n").sheet();
+    checks.check("bidder 12 alone", alone == Err(refusal(9, 0)));
+    let pair = judged(shape, "(demand 10)\n(bid 1 (seg 1 10 5 0))\n(bid 2 (seg 1 10 5 0))\n");
+    let award = pair.cleared().map(|cleared| cleared.1.clone());
+    checks.check("two alike", award.is_ok_and(|a| a.quantities == [10, 0] && a.total == 50));
+}
+
+/// The refusals printed under "Cases".
+fn paper_refusals(checks: &mut Checks, shape: &Shape) {
+    let cases = [
+        ("", Some(refusal(2, 0))),
+        ("(demand 05)", Some(refusal(2, 9))),
+        ("(demand 0)\n(bid 3 (seg 1 60 400 0))\n", Some(refusal(5, 1))),
+        ("(demand 70)\n(bid 3 (seg 61 100 350 -21350))\n", None),
+        ("(demand 70)\n(bid 3 (seg 61 100 350 -21351))\n", Some(refusal(8, 2))),
+        ("(demand 70)\n(bid 8 (seg 1 9 1 0))\n(bid 8 (seg 1 9 1 0))\n", Some(refusal(6, 3))),
+        ("(demand 70)\n(bid 3 (seg 1 60 400 0) (seg 60 100 350 0))\n", Some(refusal(7, 2))),
+    ];
+    for (text, expected) in cases {
+        checks.check(text, read(shape, text) == expected);
+    }
+    let Ok(book) = judged(shape, &format!("(demand 120)\n{BIDS}")).reading else {
+        return checks.check("the paper's book is accepted", false);
+    };
+    checks.check("split 60, 60, 0", book.split(&[60, 60, 0]) == Ok((47_800, true)));
+    checks.check("split 60, 10, 0", book.split(&[60, 10, 0]) == Err(refusal(11, 3)));
+    checks.check("room of the paper's book", book.room() == 17 + 3 * 11 + 4 * 45);
+}
+
+/// Places of refusal 2 counted by hand: the text up to `|` is the longest possible beginning.
+fn places(checks: &mut Checks, shape: &Shape) {
+    let texts = [
+        "(demand |-5)\n",
+        "(demand 1234567890123|4)\n",
+        "(demand 5)\n|",
+        "(demand 5)\n|\n",
+        "(demand 5)\n(bid 3|)\n",
+        "(demand 5)\n(bid 3 (seg 1 5 |-1 0))\n",
+        "(demand 5)\n(bid 3 (seg 1 5 1 -|0))\n",
+        "(demand 5)\n(bid 3 (seg 1 5 1 0|0))\n",
+        "(demand 5)\n(bid 3 (seg 1 5 1 -1234567890123|4))\n",
+        "(demand 5)\n(bid 3 (seg 1 5 1 0))\n|)",
+        "(demand 5)\n(bid 3 (seg 1 5 1 0))\n(|demand 5)\n",
+        "(demand 5)\n(bid 3 (seg 1 5 1 0))| \n",
+        "|Demand",
+        "(demand 5)\n(bid 3 (seg 1 5 1 0)|\r)\n",
+    ];
+    for text in texts {
+        let place = text.find('|').expect("a marked place");
+        let plain = text.replace('|', "");
+        checks.check(text, read(shape, &plain) == Some(refusal(2, place)));
+    }
+}
+
+/// Every division of the demand, in any order.
+fn divisions(bids: &[Bid], demand: i64) -> Vec<(i64, Vec<i64>)> {
+    let Some((last, before)) = bids.split_last() else {
+        return if demand == 0 { vec![(0, Vec::new())] } else { Vec::new() };
+    };
+    let mut all = Vec::new();
+    for quantity in 0..=demand {
+        let Some(price) = last.price(quantity) else { continue };
+        for (others, mut quantities) in divisions(before, demand - quantity) {
+            quantities.push(quantity);
+            all.push((price + others, quantities));
+        }
+    }
+    all
+}
+
+/// Whether `other` costs more than `best`, or the same and gives less to the first bidder at whom they differ.
+fn gives_way(other: &(i64, Vec<i64>), best: &(i64, Vec<i64>)) -> bool {
+    other.0 > best.0 || (other.0 == best.0 && other.1 < best.1)
+}
+
+fn listed_well(book: &Book, all: &[(i64, Vec<i64>)]) -> bool {
+    let Some(award) = clearing::award(book) else { return all.is_empty() };
+    let best = (award.total, award.quantities);
+    let first = all.contains(&best) && all.iter().all(|d| *d == best || gives_way(d, &best));
+    let without = |absent: usize| {
+        let mut left = book.bids.clone();
+        left.remove(absent);
+        divisions(&left, book.demand).iter().map(|division| division.0).min()
+    };
+    first && (0..book.bids.len()).all(|absent| award.without[absent] == without(absent))
+}
+
+/// Whether several divisions cost the least.
+fn tied(all: &[(i64, Vec<i64>)]) -> bool {
+    let least = all.iter().map(|division| division.0).min();
+    all.iter().filter(|division| Some(division.0) == least).count() > 1
+}
+
+fn listings(checks: &mut Checks) {
+    let mut random = Random::new(71);
+    let mut ties = 0;
+    for turn in 0..4_000 {
+        let mut book = match turn % 2 {
+            0 => books::book(&mut random, &books::SMALL),
+            _ => books::tied(&mut random, &books::SMALL),
+        };
+        book.demand = book.demand.min(24);
+        let all = divisions(&book.bids, book.demand);
+        ties += u64::from(tied(&all));
+        checks.check("a small book by listing all divisions", listed_well(&book, &all));
+    }
+    println!("self-test: 4000 small books listed, {ties} of them with several cheapest divisions");
+    checks.check("ties among the small books", ties > 500);
+}
+
+type Alteration = fn(&mut Answer);
+
+const ALTERATIONS: [Alteration; 7] = [
+    |answer| answer.refusal += 1,
+    |answer| answer.place += 1,
+    |answer| answer.numbers[0] += 1,
+    |answer| answer.numbers[1] += 1,
+    |answer| answer.rest_unchanged = false,
+    |answer| answer.output.iter_mut().take(1).for_each(|byte| *byte ^= 1),
+    |answer| answer.output.iter_mut().last().into_iter().for_each(|byte| *byte ^= 128),
+];
+
+/// Every altered answer must be counted as a difference, and an answer left as it was must not.
+fn alterations(checks: &mut Checks) {
+    let mut comparer = Comparer::silent();
+    let accepted = format!("(demand 120)\n{BIDS}");
+    for text in [accepted.as_str(), "(demand 0)\n(bid 3 (seg 1 60 400 0))\n", "(demand", "(demand 301)\n(bid 3 (seg 1 9 1 0))\n"] {
+        let judged = Judged::new(&comparer.shape, text.as_bytes());
+        let split = Call::Split(vec![60, 60, 0]);
+        for call in [Call::Sheet(600), Call::Sheet(9), Call::Write(300), Call::Room, split, Call::Award(56)] {
+            let expected = judged.answer(&call);
+            for alter in ALTERATIONS {
+                let mut altered = expected.clone();
+                alter(&mut altered);
+                let before = comparer.counts.different;
+                comparer.call(text.as_bytes(), &call, &altered);
+                let counted = comparer.counts.different - before;
+                checks.check("an altered answer", counted == u64::from(altered != expected));
+            }
+        }
+    }
+    checks.check("altered answers were compared", comparer.counts.different > 100);
+}
+
+/// Whether every check holds; says how many there were.
+pub fn run() -> bool {
+    let shape = Shape::of_book();
+    let mut checks = Checks::default();
+    paper_awards(&mut checks, &shape);
+    paper_refusals(&mut checks, &shape);
+    places(&mut checks, &shape);
+    listings(&mut checks);
+    alterations(&mut checks);
+    println!("self-test: {} checks, {} failed", checks.done, checks.failed);
+    checks.failed == 0
+}
