@@ -1,0 +1,79 @@
+/* The reader of books, and the book less one bid. */
+#include "book.h"
+
+#include <inttypes.h>
+#include <stdio.h>
+#include <string.h>
+
+/* One bid's line, from its bracket to the byte 10; the place after it, or NULL. */
+static const char *read_bid(const char *at, struct bid *bid)
+{
+    int length = 0;
+
+    if (sscanf(at, "(bid %" SCNu64 "%n", &bid->bidder, &length) != 1) {
+        return NULL;
+    }
+    at += length;
+    memset(&bid->segments[0], 0, sizeof bid->segments[0]);
+    for (bid->count = 0; *at == ' '; bid->count++) {
+        struct segment *s;
+
+        if (bid->count == SEGMENTS) {
+            return NULL;
+        }
+        s = &bid->segments[bid->count + 1];
+        length = 0;
+        sscanf(at, " (seg %" SCNu64 " %" SCNu64 " %" SCNu64 " %" SCNd64 ")%n", &s->start, &s->end, &s->unit, &s->fixed, &length);
+        if (length == 0) {
+            return NULL;
+        }
+        at += length;
+    }
+    return at[0] == ')' && at[1] == '\n' ? at + 2 : NULL;
+}
+
+static bool read_book(const char *text, struct book *book)
+{
+    int length = 0;
+    const char *at;
+
+    sscanf(text, "(demand %" SCNu64 ")\n%n", &book->demand, &length);
+    if (length == 0) {
+        return false;
+    }
+    at = text + length;
+    for (book->count = 0; *at != 0; book->count++) {
+        if (book->count == BIDS) {
+            return false;
+        }
+        at = read_bid(at, &book->bids[book->count]);
+        if (at == NULL) {
+            return false;
+        }
+    }
+    return book->count > 0;
+}
+
+bool book_load(const char *path, struct text *text, struct book *book)
+{
+    FILE *file = fopen(path, "rb");
+    bool whole;
+
+    if (file == NULL) {
+        return false;
+    }
+    text->length = fread(text->bytes, 1, TEXT_BYTES, file);
+    text->bytes[text->length] = 0;
+    whole = !ferror(file) && getc(file) == EOF;
+    fclose(file);
+    return whole && read_book(text->bytes, book);
+}
+
+void book_without(const struct book *book, size_t at, struct book *left)
+{
+    *left = *book;
+    left->count--;
+    for (size_t i = at; i < left->count; i++) {
+        left->bids[i] = book->bids[i + 1];
+    }
+}

@@ -1,0 +1,130 @@
+/* The dynamic program: the least price at which the bidders from i on sell q blanks, for each i from the last and each q up to the demand.
+ * For each segment it is the least of a sliding window, so each segment takes time linear in the demand. */
+#include "book.h"
+
+#include <stdlib.h>
+#include <string.h>
+
+/* More than every sum of prices of an accepted book, each at most 2 * 10^12, and small enough to add to. */
+#define NEVER (INT64_C(1) << 60)
+
+/* The places of a window whose keys rise, and the keys. */
+struct window {
+    size_t first, last;
+    uint64_t *places;
+    int64_t *keys;
+};
+
+static void append(struct window *w, uint64_t place, int64_t key)
+{
+    while (w->first < w->last && key <= w->keys[w->last - 1]) {
+        w->last--;
+    }
+    w->places[w->last] = place;
+    w->keys[w->last] = key;
+    w->last++;
+}
+
+/* Lowers now[q] to the least price with this bidder on segment s, where the bidders after it sell at the prices `after`. With p sold after
+ * it, the price is unit * q + fixed + (after[p] - unit * p), for q - end <= p <= q - start. */
+static void lower(const struct segment *s, uint64_t demand, const int64_t *after, int64_t *now, struct window *w)
+{
+    w->first = w->last = 0;
+    for (uint64_t q = s->start; q <= demand; q++) {
+        uint64_t p = q - s->start;
+
+        if (after[p] < NEVER) {
+            append(w, p, after[p] - (int64_t)(s->unit * p));
+        }
+        while (w->first < w->last && w->places[w->first] + s->end < q) {
+            w->first++;
+        }
+        if (w->first < w->last && price(s, q) + w->keys[w->first] < now[q]) {
+            now[q] = price(s, q) + w->keys[w->first];
+        }
+    }
+}
+
+/* Fills tables[i * (demand + 1) + q] for i from book->count to 0. */
+static void tables_of(const struct book *book, int64_t *tables, struct window *w)
+{
+    size_t width = book->demand + 1;
+    int64_t *none = tables + book->count * width;
+
+    none[0] = 0;
+    for (size_t q = 1; q < width; q++) {
+        none[q] = NEVER;
+    }
+    for (size_t i = book->count; i-- > 0;) {
+        const int64_t *after = tables + (i + 1) * width;
+        int64_t *now = tables + i * width;
+
+        memcpy(now, after, width * sizeof *now); /* segment 0 */
+        for (size_t j = 1; j <= book->bids[i].count; j++) {
+            lower(&book->bids[i].segments[j], book->demand, after, now, w);
+        }
+    }
+}
+
+/* The most that a bid can sell of `left` at the least price, where those after it sell at the prices `after`. */
+static uint64_t most(const struct bid *bid, uint64_t left, int64_t least, const int64_t *after)
+{
+    for (size_t j = bid->count; j > 0; j--) {
+        const struct segment *s = &bid->segments[j];
+
+        for (uint64_t x = s->end < left ? s->end : left; x >= s->start; x--) {
+            if (price(s, x) + after[left - x] == least) {
+                return x;
+            }
+        }
+    }
+    return 0;
+}
+
+/* The award of the book: by the rule for ties the first bidder gets most, then the second, and so on. */
+static void quantities_of(const struct book *book, const int64_t *tables, uint64_t *quantities)
+{
+    size_t width = book->demand + 1;
+    uint64_t left = book->demand;
+
+    for (size_t i = 0; i < book->count; i++) {
+        quantities[i] = most(&book->bids[i], left, tables[i * width + left], tables + (i + 1) * width);
+        left -= quantities[i];
+    }
+}
+
+static void clear(const struct book *book, int64_t *tables, struct window *w, struct clearing *out)
+{
+    memset(out, 0, sizeof *out);
+    tables_of(book, tables, w);
+    if (tables[book->demand] == NEVER) {
+        return;
+    }
+    out->covered = true;
+    out->total = tables[book->demand];
+    quantities_of(book, tables, out->quantities);
+    for (size_t i = 0; i < book->count; i++) {
+        struct book left;
+
+        book_without(book, i, &left);
+        tables_of(&left, tables, w);
+        out->covered_without[i] = tables[book->demand] < NEVER;
+        out->without[i] = out->covered_without[i] ? tables[book->demand] : 0;
+    }
+}
+
+bool dp_clear(const struct book *book, struct clearing *out)
+{
+    size_t width = book->demand + 1;
+    int64_t *tables = malloc((book->count + 1) * width * sizeof *tables);
+    struct window w = {.places = malloc(width * sizeof *w.places), .keys = malloc(width * sizeof *w.keys)};
+    bool memory = tables != NULL && w.places != NULL && w.keys != NULL;
+
+    if (memory) {
+        clear(book, tables, &w, out);
+    }
+    free(tables);
+    free(w.places);
+    free(w.keys);
+    return memory;
+}
