@@ -10,7 +10,8 @@ use Rattle.forms.specs.Shape.{Reading}
 use Rattle.forms.proofs.Digits.{few-digits, few-below}
 use Rattle.forms.proofs.Form.{Form, Next, any}
 use Rattle.forms.proofs.Word.{word}
-use Rattle.forms.proofs.Number.{number, NoDigit}
+use Rattle.forms.proofs.DigitTests.{NoDigit}
+use Rattle.forms.proofs.Number.{number}
 use Rattle.forms.proofs.Signed.{signed, from-0}
 use Rattle.forms.proofs.Pair.{pair, Follows}
 use Rattle.forms.proofs.Via.{via, Same}

@@ -2,6 +2,7 @@ pub mod Parse
 pub mod Form
 pub mod Word
 pub mod Digits
+pub mod DigitTests
 pub mod Number
 pub mod Pair
 pub mod Either

@@ -9,7 +9,8 @@ use lib.Dec.{ltb}
 use lib.ListN.{length, drop, getD, drop-of-length-le}
 use Rattle.lists.proofs.Slices.{drop-next}
 use Rattle.forms.proofs.Parse.{parsed, stopped}
-use Rattle.forms.proofs.Number.{number, number-parse, further, goesOn, isFirst, beginsNumber, goes, first-low, first-high}
+use Rattle.forms.proofs.DigitTests.{goesOn, isFirst, beginsNumber, goes}
+use Rattle.forms.proofs.Number.{number, number-parse, further, first-low, first-high}
 use Rattle.forms.proofs.Place.{Found, Stops}
 use Rattle.scanner.specs.declared.Cursor.{Cursor}
 use Rattle.scanner.specs.declared.ParsedNumber.{ParsedNumber}

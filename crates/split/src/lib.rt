@@ -32,7 +32,8 @@ pub fn price_split(book: Book, quantities: &[u64]) -> SplitPrice
     price_accepted(book, quantities)
 }
 
-fn refused(verdict: Verdict) -> SplitPrice
+// Price 0 and no beside a refusal. It is pub for the splits of texts.
+pub fn refused(verdict: Verdict) -> SplitPrice
     ensures { λ r. ⌜ r ≡ refusedSplit verdict ⌝ }
 {
     SplitPrice {

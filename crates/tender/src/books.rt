@@ -3,7 +3,6 @@ ghost use mathlib.Core.Path.{_≡_};
 ghost use lib.ListN.{length};
 ghost use Rattle.tender.specs.FromText.{bookWritten, bookOutput, roomText, splitText};
 use book::RoomFigure;
-use money::Cents;
 use output::TextWritten;
 use refusal::Verdict;
 use split::SplitPrice;
@@ -42,11 +41,7 @@ pub fn price_split(text: &[u8], quantities: &[u64]) -> SplitPrice
     let read = reader::read(text);
     let verdict = read.verdict;
     if let Verdict::Refused(_, _) = verdict {
-        return SplitPrice {
-            verdict,
-            price: Cents(0),
-            meets: false,
-        };
+        return split::refused(verdict);
     }
     let book = read.book;
     split::price_split(book, quantities)

@@ -3,7 +3,8 @@ use native.Mathlib.Omega.{arith}
 use mathlib.Core.Path.{refl, sym, subst}
 use lib.ListN.{length, getD}
 use Rattle.lists.proofs.Tests.{passed, failed}
-use Rattle.forms.proofs.Number.{number, goes}
+use Rattle.forms.proofs.DigitTests.{goes}
+use Rattle.forms.proofs.Number.{number}
 use Rattle.scanner.specs.declared.Cursor.{Cursor}
 use Rattle.scanner.proofs.Steps.{still, found, halted}
 use Rattle.scanner.proofs.Numbers.{Answered, Digits, first-within, first-digit, number-none, number-first, number-ends, number-stops, number-goes}

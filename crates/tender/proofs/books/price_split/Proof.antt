@@ -13,13 +13,17 @@ read-requires c κs = search needs
 enum-told : tie.Need-enum-told
 enum-told c = search needs
 
+refused-requires : tie.Need-refused-requires
+refused-requires c κs = search needs
+
 returns : tie.Need-returns
 unfolding splitText
 returns c =
-    let told = c .enum-told .given in
-    let read = c .before .before .read in
-    let rs = c .before .before .before .before .before .args .quantities .now in
-    text-refused _ (read .result) (read .ensures) (told .0 .0) (told .0 .1 .0) (told .1) (λ (b : BookEntries). splitOf b rs) refusedSplit
+    let told = c .before .enum-told .given in
+    let read = c .before .before .before .read in
+    let rs = c .before .before .before .before .before .before .args .quantities .now in
+    c .refused .ensures
+    ∙ text-refused _ (read .result) (read .ensures) (told .0 .0) (told .0 .1 .0) (told .1) (λ (b : BookEntries). splitOf b rs) refusedSplit
 
 enum-told-2 : tie.Need-enum-told-2
 enum-told-2 c = search needs
@@ -37,4 +41,4 @@ returns-2 c =
 
 pub price-split-spec : {M : Type 1} → statement M
 price-split-spec =
-    tie.close (tie.spec read-requires enum-told returns enum-told-2 price-split-requires returns-2)
+    tie.close (tie.spec read-requires enum-told refused-requires returns enum-told-2 price-split-requires returns-2)
