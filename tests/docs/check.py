@@ -1,0 +1,270 @@
+# That the pages quote and cite what is there. Run from the repository's top (tests/docs/run does). Five kinds of check:
+#   quote  a fenced block whose first line names a file stands in that file, its lines one after the other
+#   path   a file, folder or heading that a page cites exists
+#   name   a name cited together with a file is declared in it
+#   edit   CLAIMS.md cites every must-fail edit, and no edit that is not there
+#   crate  ARCHITECTURE.md names every crate of crates.txt, and its table of groups no other
+import glob
+import os
+import re
+import sys
+
+PAGES = ["README.md"] + sorted(glob.glob("docs/*.md"))
+# The landing notes speak of the past: of them only links are checked, and paths written with docs/ or tests/ in front.
+NOTES = sorted(glob.glob("docs/landings/*.md"))
+
+passed = 0
+faults = []
+
+
+def check(holds, where, fault):
+    """Counts a check; a fault is kept with the page and what it says there."""
+    global passed
+    if holds:
+        passed += 1
+    else:
+        faults.append(f"{where}: {fault}")
+
+
+def read(path):
+    with open(path, encoding="utf-8") as file:
+        return file.read()
+
+
+# ---- the parts of a page
+
+
+def parts(page):
+    """The fenced blocks of a page as (line, info string, lines), and the other lines, each with its number."""
+    blocks, prose, block = [], [], None
+    for number, line in enumerate(read(page).split("\n"), 1):
+        if line.startswith("```"):
+            if block is None:
+                block = (number, line[3:].strip(), [])
+            else:
+                blocks.append(block)
+                block = None
+        elif block is not None:
+            block[2].append(line)
+        else:
+            prose.append((number, line))
+    return blocks, prose
+
+
+def paragraphs(prose):
+    """What is read as one: lines up to an empty one, joined, so that a name and its file may stand on two lines; a table's row is alone."""
+    start, held = 0, []
+    for number, line in prose + [(0, "")]:
+        alone = line.startswith("|")
+        if held and (line.strip() == "" or alone):
+            yield start, " ".join(held)
+            held = []
+        if alone:
+            yield number, line
+        elif line.strip():
+            start = start if held else number
+            held.append(line.strip())
+
+
+# ---- quotes
+
+
+def stands_in(lines, whole):
+    """The lines occur in the file's, contiguously and unaltered."""
+    return any(whole[i : i + len(lines)] == lines for i in range(len(whole) - len(lines) + 1))
+
+
+def check_quotes(page):
+    marks = sum(line.startswith("```") for line in read(page).split("\n"))
+    check(marks % 2 == 0, page, "a fenced block is not closed")
+    for number, info, lines in parts(page)[0]:
+        # An info string with a slash is meant as a path, so a wrong one is a fault and no block of another kind.
+        if "/" in info or os.path.isfile(info):
+            there = os.path.isfile(info)
+            check(there, f"{page}:{number}", f"no file {info} to quote from")
+            if there:
+                good = bool(lines) and stands_in(lines, read(info).split("\n"))
+                check(good, f"{page}:{number}", f"not in {info}: {(lines or ['an empty quote'])[0].strip()}")
+
+
+# ---- paths
+
+EXTENSIONS = ("antt", "book", "c", "edit", "h", "md", "py", "rt", "rs", "sh", "toml", "txt")
+CRATES = [os.path.basename(path) for path in sorted(glob.glob("crates/*"))]
+TOPS = [".ci", "bench", "crates", "docs", "examples", "include", "tests"]
+CRATE_FOLDERS = ["must-fail", "proofs", "specs", "src"]
+WORD = r"(?:\*|[.+]?\w(?:[\w.+-]*\w)?)"
+PATH = re.compile(rf"(?<![\w./<:-]){WORD}(?:/{WORD})*/?")
+LINK = re.compile(r"\]\(([^)\s]+)\)")
+
+
+def looks_like_path(text):
+    """With a slash: below a folder of this repository or a crate, or with a known ending. Without: with a known ending. What is built
+    (target/) and what holds a place for a name (crates/NAME/src/, proofs/f/Proof.antt) is none."""
+    first = text.split("/")[0]
+    if first == "target" or {"NAME", "f"} & set(text.split("/")):
+        return False
+    ending = "." in text and text.rsplit(".", 1)[1] in EXTENSIONS and not text.startswith(".")
+    return ending or ("/" in text and first in TOPS + CRATES + CRATE_FOLDERS)
+
+
+def resolve(path, page):
+    """The files and folders that a cited path means: from the top; from crates/, with the crate and what is in it; within some crate; or
+    beside the page. A file name without a folder is looked for everywhere."""
+    tries = [path, os.path.join(os.path.dirname(page), path)]
+    if "/" in path.rstrip("/"):
+        tries.append("crates/" + path)
+    if path.split("/")[0] in CRATE_FOLDERS:
+        tries.append("crates/*/" + path)
+    if "/" not in path:
+        tries += ["crates/*/*/" + path, "crates/*/*/*/" + path, "*/" + path]
+    found = []
+    for attempt in tries:
+        found = found or glob.glob(attempt)
+    return found
+
+
+def headings(page):
+    """The anchors of a page's headings, as they are made for links: lower case, hyphens for spaces, no other marks."""
+    titles = [line.lstrip("#").strip() for _, line in parts(page)[1] if line.startswith("#")]
+    return [re.sub(r"[^\w -]", "", title.lower()).replace(" ", "-") for title in titles]
+
+
+def check_link(page, number, target):
+    if "://" in target:
+        return
+    file, _, anchor = target.partition("#")
+    goal = os.path.normpath(os.path.join(os.path.dirname(page), file)) if file else page
+    there = os.path.exists(goal)
+    check(there, f"{page}:{number}", f"no file for the link {target}")
+    if there and anchor:
+        check(anchor in headings(goal), f"{page}:{number}", f"no heading for the link {target}")
+
+
+def check_paths(page, fronts):
+    """Of a page with `fronts` only the paths that begin with one of them."""
+    for number, line in parts(page)[1]:
+        for target in LINK.findall(line):
+            check_link(page, number, target)
+        for path in PATH.findall(LINK.sub("]", line)):
+            if looks_like_path(path) and (not fronts or path.startswith(fronts)):
+                check(bool(resolve(path, page)), f"{page}:{number}", f"no file {path}")
+
+
+# ---- names
+
+# One name or several in backticks, and then the file: `a`, `b` and `c` (x/specs/Y.antt), (`a`, x/specs/Y.antt), `a` in `x/specs/Y.antt`.
+NAMES = r"(?P<names>`[^`]+`(?:(?:, | and )`[^`]+`)*)"
+FILE = r"(?P<path>[\w.+-]+(?:/[\w.+-]+)+/?)"
+CITED = re.compile(NAMES + r"(?: \(|, | in |, in )`?" + FILE)
+# The file first: theorems (x/proofs/Y.antt): `a` (in words), `b`, up to a semicolon or the end of the cell.
+LISTED = re.compile(r"theorems \(" + FILE + r"\): (?P<names>[^|]*)")
+
+
+def files_of(found):
+    """The files that a citation means: of a folder all that are in it."""
+    for path in found:
+        if os.path.isfile(path):
+            yield path
+        else:
+            yield from (file for file in glob.glob(path.rstrip("/") + "/**", recursive=True) if os.path.isfile(file))
+
+
+def declares(file, name):
+    """A definition, theorem, field or case stands at the beginning of its line, after words like `pub`; a function of the code after `fn`,
+    another thing of it after its kind. Remarks and lines that take names from elsewhere declare nothing."""
+    before = r"^\s*(?:(?:pub|abbrev|unfoldable|record|data|fn|struct|enum|const|mod|extern \"C\") )*"
+    declared = re.compile(before + re.escape(name) + r"(?![\w-])")
+    return any(declared.match(line) for line in read(file).split("\n"))
+
+
+def citations(text):
+    """What a paragraph cites, as names in backticks and a path."""
+    for cited in CITED.finditer(text):
+        yield cited["names"], cited["path"]
+    for cited in LISTED.finditer(text):
+        yield re.sub(r"\([^()]*\)", "", cited["names"]).split(";")[0], cited["path"]
+
+
+def check_names(page):
+    for number, text in paragraphs(parts(page)[1]):
+        for names, path in citations(text):
+            files = list(files_of(resolve(path, page)))
+            for name in re.findall(r"`([^`]+)`", names):
+                # A path among the names, and a path that is not there, are faults of the other kind; of crate::name the name counts.
+                if "/" not in name and " " not in name and files:
+                    last = name.split("::")[-1]
+                    check(any(declares(file, last) for file in files), f"{page}:{number}", f"no {last} in {path}")
+
+
+# ---- must-fail edits
+
+CLAIMS = "docs/CLAIMS.md"
+
+
+def cited_edits():
+    """CLAIMS.md writes an edit's name plain. So a word of lower case letters and digits with an underscore is one, unless it stands in
+    backticks (functions, files, crates) or in quotes (cases of the test programs)."""
+    for number, line in parts(CLAIMS)[1]:
+        plain = re.sub(r'`[^`]*`|"[^"]*"', " ", line)
+        for word in re.findall(r"(?<![\w/.-])[a-z0-9]+(?:_[a-z0-9]+)+(?![\w/-])", plain):
+            yield number, word
+
+
+def check_edits():
+    there = {path: os.path.basename(path)[: -len(".edit")] for path in sorted(glob.glob("crates/*/must-fail/*.edit"))}
+    cited = list(cited_edits())
+    words = {word for _, word in cited}
+    for path, name in there.items():
+        check(name in words, CLAIMS, f"the edit {path} is not cited")
+    for number, word in cited:
+        check(word in there.values(), f"{CLAIMS}:{number}", f"no edit {word}")
+
+
+# ---- crates
+
+ARCHITECTURE = "docs/ARCHITECTURE.md"
+
+
+def listed_crates():
+    lines = [line.split("#")[0].strip() for line in read("crates.txt").split("\n")]
+    return [line.split(":")[0] for line in lines if line]
+
+
+def grouped_crates():
+    """The second column of the table that begins with `Group`."""
+    inside = False
+    for number, line in parts(ARCHITECTURE)[1]:
+        cells = [cell.strip() for cell in line.strip("|").split("|")]
+        inside = line.startswith("|") and (inside or cells[0] == "Group")
+        if inside and len(cells) > 1:
+            for name in re.findall(r"`([^`]+)`", cells[1]):
+                yield number, name
+
+
+def check_crates():
+    listed = listed_crates()
+    # Named in backticks, alone or before a slash or ::.
+    words = re.findall(r"`([\w-]+)(?=`|/|::)", "\n".join(line for _, line in parts(ARCHITECTURE)[1]))
+    for crate in listed:
+        check(crate in words, ARCHITECTURE, f"the crate {crate} is not named")
+    for number, name in grouped_crates():
+        check(name in listed, f"{ARCHITECTURE}:{number}", f"no crate {name} in crates.txt")
+
+
+def main():
+    for page in PAGES:
+        check_quotes(page)
+        check_paths(page, ())
+        check_names(page)
+    for page in NOTES:
+        check_paths(page, ("docs/", "tests/"))
+    check_edits()
+    check_crates()
+    for fault in faults:
+        print(fault)
+    print(f"{passed} passed, {len(faults)} failed")
+    return 1 if faults else 0
+
+
+sys.exit(main())
