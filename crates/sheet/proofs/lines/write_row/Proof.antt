@@ -1,7 +1,9 @@
 use native.Mathlib.Omega.{arith}
+use mathlib.Core.List.{append-assoc, append-nil}
 use borrow.Author.Needs.{needs}
+use Rattle.sheettext.specs.Sheet.{rowText}
 use Rattle.sheettext.proofs.Sizes.{row-size}
-use Rattle.sheet.proofs.Parts.{wrote-row}
+use Rattle.printer.proofs.Parts.{done, _then_, wrote-all}
 use Rattle.sheet.proofs.lines.write_row.Statement.{statement}
 use Rattle.sheet.proofs.lines.write_row.Tie as tie
 
@@ -67,6 +69,7 @@ same-length : tie.Need-same-length
 same-length c = search needs
 
 returns : tie.Need-returns
+unfolding rowText
 returns c =
     let w₆ = c .before .before in
     let w₅ = w₆ .before .before .before .before in
@@ -75,35 +78,9 @@ returns c =
     let w₂ = w₃ .before .before .before .before .before in
     let w₁ = w₂ .before .before .before .before .before in
     let s = w₁ .before .before .before .before .before in
-    let a = w₁ .write-number in
-    let b = w₂ .write-number2 in
-    let d = w₃ .write-number3 in
-    let e = w₄ .write-cents in
-    let f = w₅ .write-number4 in
-    let g = w₆ .write-without in
-    wrote-row
-    (s .args .out .now)
-    (s .args .at)
-    (s .args .row)
-    (a .last .0)
-    (b .last .0)
-    (d .last .0)
-    (e .last .0)
-    (f .last .0)
-    (g .last .0)
-    (a .result)
-    (b .result)
-    (d .result)
-    (e .result)
-    (f .result)
-    (g .result)
-    (s .pre)
-    (a .ensures)
-    (b .ensures)
-    (d .ensures)
-    (e .ensures)
-    (f .ensures)
-    (g .ensures)
+    wrote-all (s .pre)
+    (w₁ .write-number .ensures then w₂ .write-number2 .ensures then w₃ .write-number3 .ensures then w₄ .write-cents .ensures then w₅ .write-number4 .ensures then w₆ .write-without .ensures then done)
+    (simp (append-assoc, append-nil))
 
 pub write-row-spec : {M : Type 1} → statement M
 write-row-spec =

@@ -1,8 +1,10 @@
 use native.Mathlib.Omega.{arith}
+use mathlib.Core.List.{append-assoc, append-nil}
 use borrow.Author.Needs.{needs}
 use Rattle.book.specs.Entries.{bidEntries}
+use Rattle.booktext.specs.BookText.{bidText}
+use Rattle.printer.proofs.Parts.{done, _then_, wrote-all}
 use Rattle.writer.proofs.Sizes.{bid-size}
-use Rattle.writer.proofs.Parts.{wrote-bid}
 use Rattle.writer.proofs.lines.write_bid.Statement.{statement}
 use Rattle.writer.proofs.lines.write_bid.Tie as tie
 
@@ -32,16 +34,14 @@ same-length : tie.Need-same-length
 same-length c = search needs
 
 returns : tie.Need-returns
+unfolding bidText
 returns c =
     let w₃ = c .before .before in
     let w₂ = w₃ .before .before .before .before .before in
     let w₁ = w₂ .before .before .before .before in
     let s = w₁ .before .before .before .before in
-    let a = w₁ .write-number in
-    let b = w₂ .write-segments in
-    let d = w₃ .write-word in
-    wrote-bid (s .args .out .now) (s .args .at) (bidEntries (s .args .bid)) (a .last .0) (b .last .0) (d .last .0) (a .result) (b .result)
-    (d .result) (s .pre .1) (a .ensures) (b .ensures) (d .ensures)
+    wrote-all (s .pre .1) (w₁ .write-number .ensures then w₂ .write-segments .ensures then w₃ .write-word .ensures then done)
+    (simp (append-assoc, append-nil))
 
 pub write-bid-spec : {M : Type 1} → statement M
 write-bid-spec =

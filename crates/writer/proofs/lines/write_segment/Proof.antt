@@ -1,7 +1,9 @@
 use native.Mathlib.Omega.{arith}
+use mathlib.Core.List.{append-assoc, append-nil}
 use borrow.Author.Needs.{needs}
+use Rattle.booktext.specs.BookText.{segmentText}
+use Rattle.printer.proofs.Parts.{done, _then_, wrote-all}
 use Rattle.writer.proofs.Sizes.{segment-size}
-use Rattle.writer.proofs.Parts.{wrote-segment}
 use Rattle.writer.proofs.lines.write_segment.Statement.{statement}
 use Rattle.writer.proofs.lines.write_segment.Tie as tie
 
@@ -54,6 +56,7 @@ same-length : tie.Need-same-length
 same-length c = search needs
 
 returns : tie.Need-returns
+unfolding segmentText
 returns c =
     let w₅ = c .before .before in
     let w₄ = w₅ .before .before .before .before .before in
@@ -61,31 +64,9 @@ returns c =
     let w₂ = w₃ .before .before .before .before .before in
     let w₁ = w₂ .before .before .before .before .before in
     let s = w₁ .before .before .before .before in
-    let a = w₁ .write-number in
-    let b = w₂ .write-number2 in
-    let d = w₃ .write-number3 in
-    let e = w₄ .write-cents in
-    let f = w₅ .write-word in
-    wrote-segment
-    (s .args .out .now)
-    (s .args .at)
-    (s .args .s)
-    (a .last .0)
-    (b .last .0)
-    (d .last .0)
-    (e .last .0)
-    (f .last .0)
-    (a .result)
-    (b .result)
-    (d .result)
-    (e .result)
-    (f .result)
-    (s .pre)
-    (a .ensures)
-    (b .ensures)
-    (d .ensures)
-    (e .ensures)
-    (f .ensures)
+    wrote-all (s .pre)
+    (w₁ .write-number .ensures then w₂ .write-number2 .ensures then w₃ .write-number3 .ensures then w₄ .write-cents .ensures then w₅ .write-word .ensures then done)
+    (simp (append-assoc, append-nil))
 
 pub write-segment-spec : {M : Type 1} → statement M
 write-segment-spec =
