@@ -9,7 +9,6 @@ use Rattle.printer.specs.Written.{Wrote}
 use Rattle.printer.proofs.Written.{wrote-none, wrote-as, wrote-then}
 
 infixr 5 _then_
-
 -- the parts, each written where the one before it ended
 pub data WroteAll : List ℕ → ℕ → List (List ℕ) → List ℕ → ℕ → Type 0 where
   done : {out : List ℕ} {at : ℕ} → WroteAll out at [] out at
@@ -29,3 +28,6 @@ wrote-after out at a room w (_then_ {p} {ps} v vs) =
 pub wrote-all : {out : List ℕ} {at : ℕ} {ps : List (List ℕ)} {text exit : List ℕ} {end : ℕ} → at + length text ≤ length out
     → WroteAll out at ps exit end → joined (λ p. p) ps ≡ text → Wrote out at text exit end
 wrote-all {out} {at} room ws same = wrote-as out at _ _ _ _ same (wrote-after out at [] (rw same room) (wrote-none out at) ws)
+
+-- that they are: the texts bracketed alike
+pub ruleset together = (append-assoc, append-nil)

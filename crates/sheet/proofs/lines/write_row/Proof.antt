@@ -1,9 +1,8 @@
 use native.Mathlib.Omega.{arith}
-use mathlib.Core.List.{append-assoc, append-nil}
 use borrow.Author.Needs.{needs}
 use Rattle.sheettext.specs.Sheet.{rowText}
 use Rattle.sheettext.proofs.Sizes.{row-size}
-use Rattle.printer.proofs.Parts.{done, _then_, wrote-all}
+use Rattle.printer.proofs.Parts.{done, _then_, wrote-all, together}
 use Rattle.sheet.proofs.lines.write_row.Statement.{statement}
 use Rattle.sheet.proofs.lines.write_row.Tie as tie
 
@@ -79,8 +78,9 @@ returns c =
     let w₁ = w₂ .before .before .before .before .before in
     let s = w₁ .before .before .before .before .before in
     wrote-all (s .pre)
-    (w₁ .write-number .ensures then w₂ .write-number2 .ensures then w₃ .write-number3 .ensures then w₄ .write-cents .ensures then w₅ .write-number4 .ensures then w₆ .write-without .ensures then done)
-    (simp (append-assoc, append-nil))
+    (w₁ .write-number .ensures then w₂ .write-number2 .ensures then w₃ .write-number3 .ensures then w₄ .write-cents .ensures
+    then w₅ .write-number4 .ensures then w₆ .write-without .ensures then done)
+    (simp together)
 
 pub write-row-spec : {M : Type 1} → statement M
 write-row-spec =

@@ -1,9 +1,8 @@
 use native.Mathlib.Omega.{arith}
-use mathlib.Core.List.{append-assoc, append-nil}
 use borrow.Author.Needs.{needs}
 use Rattle.sheettext.specs.Sheet.{sheetText}
 use Rattle.sheettext.proofs.Sizes.{sheet-size}
-use Rattle.printer.proofs.Parts.{done, _then_, wrote-all}
+use Rattle.printer.proofs.Parts.{done, _then_, wrote-all, together}
 use Rattle.sheet.proofs.lines.write_sheet.Statement.{statement}
 use Rattle.sheet.proofs.lines.write_sheet.Tie as tie
 
@@ -50,7 +49,7 @@ returns c =
     let s = w₁ .before .before .before .before .before in
     wrote-all (omega (arith, s .pre))
     (w₁ .write-number .ensures then w₂ .write-cents .ensures then w₃ .write-word .ensures then w₄ .write-rows .ensures then done)
-    (simp (append-assoc, append-nil))
+    (simp together)
 
 pub write-sheet-spec : {M : Type 1} → statement M
 write-sheet-spec =

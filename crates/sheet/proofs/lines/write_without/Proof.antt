@@ -1,8 +1,7 @@
 use native.Mathlib.Omega.{arith}
-use mathlib.Core.List.{append-assoc, append-nil}
 use borrow.Author.Needs.{needs}
 use lib.ListN.{length-append}
-use Rattle.printer.proofs.Parts.{done, _then_, wrote-all}
+use Rattle.printer.proofs.Parts.{done, _then_, wrote-all, together}
 use Rattle.sheet.proofs.lines.write_without.Statement.{statement}
 use Rattle.sheet.proofs.lines.write_without.Tie as tie
 
@@ -32,7 +31,7 @@ returns c =
     let s = w₁ .before .before .before .before in
     wrote-all (simp length-append (omega (arith, s .pre)))
     (w₁ .write-word .ensures then w₂ .write-total .ensures then w₃ .write-word2 .ensures then done)
-    (simp (append-assoc, append-nil))
+    (simp together)
 
 pub write-without-spec : {M : Type 1} → statement M
 write-without-spec =

@@ -1,12 +1,11 @@
 use Prim.Native.Nat.{_+_}
 use native.Mathlib.Omega.{arith}
-use mathlib.Core.List.{append-assoc, append-nil}
 use mathlib.Core.Path.{_≡_, refl, sym}
 use borrow.Author.Needs.{needs}
 use lib.ListN.{length}
 use Rattle.output.proofs.Answers.{too-short, in-full}
 use Rattle.refusal.specs.declared.Verdict.the-variants.{Accepted}
-use Rattle.printer.proofs.Parts.{done, _then_, wrote-all}
+use Rattle.printer.proofs.Parts.{done, _then_, wrote-all, together}
 use Rattle.sheettext.specs.Sheet.{refusalText}
 use Rattle.sheettext.proofs.Sizes.{refusal-size}
 use Rattle.sheet.proofs.refusals.write_refusal.Statement.{statement}
@@ -89,7 +88,7 @@ returns-2 c =
     let line =
     wrote-all {text = refusalText (a .verdict)} (omega (arith, measured size, fits .if1 .left))
     (w₁ .write-number .ensures then w₂ .write-number2 .ensures then w₃ .write-word .ensures then done)
-    (simp (append-assoc, append-nil, number .number .ensures, place .place .ensures)) in
+    (simp (together, number .number .ensures, place .place .ensures)) in
     in-full Accepted (refusalText (a .verdict)) (a .out .now) refl _ (sym (measured size)) (answer .result) (answer .ensures)
     (omega (arith, fits .if1 .left)) (w₃ .write-word .last .0) (line .1)
 

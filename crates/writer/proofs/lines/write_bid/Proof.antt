@@ -1,9 +1,8 @@
 use native.Mathlib.Omega.{arith}
-use mathlib.Core.List.{append-assoc, append-nil}
 use borrow.Author.Needs.{needs}
 use Rattle.book.specs.Entries.{bidEntries}
 use Rattle.booktext.specs.BookText.{bidText}
-use Rattle.printer.proofs.Parts.{done, _then_, wrote-all}
+use Rattle.printer.proofs.Parts.{done, _then_, wrote-all, together}
 use Rattle.writer.proofs.Sizes.{bid-size}
 use Rattle.writer.proofs.lines.write_bid.Statement.{statement}
 use Rattle.writer.proofs.lines.write_bid.Tie as tie
@@ -41,7 +40,7 @@ returns c =
     let w₁ = w₂ .before .before .before .before in
     let s = w₁ .before .before .before .before in
     wrote-all (s .pre .1) (w₁ .write-number .ensures then w₂ .write-segments .ensures then w₃ .write-word .ensures then done)
-    (simp (append-assoc, append-nil))
+    (simp together)
 
 pub write-bid-spec : {M : Type 1} → statement M
 write-bid-spec =

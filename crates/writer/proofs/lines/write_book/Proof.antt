@@ -1,9 +1,8 @@
 use native.Mathlib.Omega.{arith}
-use mathlib.Core.List.{append-assoc, append-nil}
 use borrow.Author.Needs.{needs}
 use Rattle.book.specs.Entries.{bookEntries}
 use Rattle.booktext.specs.BookText.{bookText}
-use Rattle.printer.proofs.Parts.{done, _then_, wrote-all}
+use Rattle.printer.proofs.Parts.{done, _then_, wrote-all, together}
 use Rattle.writer.proofs.Sizes.{book-size}
 use Rattle.writer.proofs.lines.write_book.Statement.{statement}
 use Rattle.writer.proofs.lines.write_book.Tie as tie
@@ -41,7 +40,7 @@ returns c =
     let w₁ = w₂ .before .before .before .before .before in
     let s = w₁ .before .before .before .before in
     wrote-all (omega (arith, s .pre .1)) (w₁ .write-number .ensures then w₂ .write-word .ensures then w₃ .write-bids .ensures then done)
-    (simp (append-assoc, append-nil))
+    (simp together)
 
 pub write-book-spec : {M : Type 1} → statement M
 write-book-spec =

@@ -1,8 +1,7 @@
 use native.Mathlib.Omega.{arith}
-use mathlib.Core.List.{append-assoc, append-nil}
 use borrow.Author.Needs.{needs}
 use Rattle.booktext.specs.BookText.{segmentText}
-use Rattle.printer.proofs.Parts.{done, _then_, wrote-all}
+use Rattle.printer.proofs.Parts.{done, _then_, wrote-all, together}
 use Rattle.writer.proofs.Sizes.{segment-size}
 use Rattle.writer.proofs.lines.write_segment.Statement.{statement}
 use Rattle.writer.proofs.lines.write_segment.Tie as tie
@@ -65,8 +64,9 @@ returns c =
     let w₁ = w₂ .before .before .before .before .before in
     let s = w₁ .before .before .before .before in
     wrote-all (s .pre)
-    (w₁ .write-number .ensures then w₂ .write-number2 .ensures then w₃ .write-number3 .ensures then w₄ .write-cents .ensures then w₅ .write-word .ensures then done)
-    (simp (append-assoc, append-nil))
+    (w₁ .write-number .ensures then w₂ .write-number2 .ensures then w₃ .write-number3 .ensures then w₄ .write-cents .ensures
+    then w₅ .write-word .ensures then done)
+    (simp together)
 
 pub write-segment-spec : {M : Type 1} → statement M
 write-segment-spec =
