@@ -21,7 +21,7 @@ write-number-requires-2 : tie.Need-write-number-requires-2
 write-number-requires-2 c κs =
     let w₁ = c .before .before .before .before in
     let s = w₁ .before .before .before .before .before in
-    omega (arith, row-size (s .args .row), s .pre, w₁ .write-number)
+    omega (arith, row-size (s .args .row))
 
 slice-aggregate-write-number-3 : tie.Need-slice-aggregate-write-number-3
 slice-aggregate-write-number-3 c = search needs
@@ -31,7 +31,7 @@ write-number-requires-3 c κs =
     let w₂ = c .before .before .before .before in
     let w₁ = w₂ .before .before .before .before .before in
     let s = w₁ .before .before .before .before .before in
-    omega (arith, row-size (s .args .row), s .pre, w₁ .write-number, w₂ .write-number2)
+    omega (arith, row-size (s .args .row))
 
 write-cents-requires : tie.Need-write-cents-requires
 write-cents-requires c κs =
@@ -39,7 +39,7 @@ write-cents-requires c κs =
     let w₂ = w₃ .before .before .before .before .before in
     let w₁ = w₂ .before .before .before .before .before in
     let s = w₁ .before .before .before .before .before in
-    omega (arith, row-size (s .args .row), s .pre, w₁ .write-number, w₂ .write-number2, w₃ .write-number3)
+    omega (arith, row-size (s .args .row))
 
 slice-aggregate-write-number-4 : tie.Need-slice-aggregate-write-number-4
 slice-aggregate-write-number-4 c = search needs
@@ -51,7 +51,7 @@ write-number-requires-4 c κs =
     let w₂ = w₃ .before .before .before .before .before in
     let w₁ = w₂ .before .before .before .before .before in
     let s = w₁ .before .before .before .before .before in
-    omega (arith, row-size (s .args .row), s .pre, w₁ .write-number, w₂ .write-number2, w₃ .write-number3, w₄ .write-cents)
+    omega (arith, row-size (s .args .row))
 
 write-without-requires : tie.Need-write-without-requires
 write-without-requires c κs =
@@ -61,8 +61,7 @@ write-without-requires c κs =
     let w₂ = w₃ .before .before .before .before .before in
     let w₁ = w₂ .before .before .before .before .before in
     let s = w₁ .before .before .before .before .before in
-    omega
-    (arith, row-size (s .args .row), s .pre, w₁ .write-number, w₂ .write-number2, w₃ .write-number3, w₄ .write-cents, w₅ .write-number4)
+    omega (arith, row-size (s .args .row))
 
 same-length : tie.Need-same-length
 same-length c = search needs

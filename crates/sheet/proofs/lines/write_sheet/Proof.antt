@@ -16,7 +16,7 @@ write-cents-requires : tie.Need-write-cents-requires
 write-cents-requires c κs =
     let w₁ = c .before .before .before in
     let s = w₁ .before .before .before .before .before in
-    omega (arith, sheet-size (s .args .award), s .pre, w₁ .write-number)
+    omega (arith, sheet-size (s .args .award))
 
 slice-aggregate-write-word : tie.Need-slice-aggregate-write-word
 slice-aggregate-write-word c = search needs
@@ -26,7 +26,7 @@ write-word-requires c κs =
     let w₂ = c .before .before .before .before in
     let w₁ = w₂ .before .before .before .before in
     let s = w₁ .before .before .before .before .before in
-    omega (arith, sheet-size (s .args .award), s .pre, w₁ .write-number, w₂ .write-cents)
+    omega (arith, sheet-size (s .args .award))
 
 write-rows-requires : tie.Need-write-rows-requires
 write-rows-requires c κs =
@@ -34,7 +34,7 @@ write-rows-requires c κs =
     let w₂ = w₃ .before .before .before .before .before in
     let w₁ = w₂ .before .before .before .before in
     let s = w₁ .before .before .before .before .before in
-    omega (arith, sheet-size (s .args .award), s .pre, w₁ .write-number, w₂ .write-cents, w₃ .write-word)
+    omega (arith, sheet-size (s .args .award))
 
 same-length : tie.Need-same-length
 same-length c = search needs

@@ -17,7 +17,7 @@ write-segments-requires : tie.Need-write-segments-requires
 write-segments-requires c κs =
     let w₁ = c .before .before .before in
     let s = w₁ .before .before .before .before in
-    (s .pre .0, omega (arith, bid-size (bidEntries (s .args .bid)), s .pre .1, w₁ .write-number))
+    (s .pre .0, omega (arith, bid-size (bidEntries (s .args .bid))))
 
 slice-aggregate-write-word : tie.Need-slice-aggregate-write-word
 slice-aggregate-write-word c = search needs
@@ -27,7 +27,7 @@ write-word-requires c κs =
     let w₂ = c .before .before .before .before in
     let w₁ = w₂ .before .before .before .before in
     let s = w₁ .before .before .before .before in
-    omega (arith, bid-size (bidEntries (s .args .bid)), s .pre .1, w₁ .write-number, w₂ .write-segments)
+    omega (arith, bid-size (bidEntries (s .args .bid)))
 
 same-length : tie.Need-same-length
 same-length c = search needs

@@ -20,14 +20,14 @@ write-word-requires : tie.Need-write-word-requires
 write-word-requires c κs =
     let w₁ = c .before .before .before .before in
     let s = w₁ .before .before .before .before in
-    omega (arith, book-size (bookEntries (s .args .book)), s .pre .1, w₁ .write-number)
+    omega (arith, book-size (bookEntries (s .args .book)))
 
 write-bids-requires : tie.Need-write-bids-requires
 write-bids-requires c κs =
     let w₂ = c .before .before .before in
     let w₁ = w₂ .before .before .before .before .before in
     let s = w₁ .before .before .before .before in
-    (s .pre .0, omega (arith, book-size (bookEntries (s .args .book)), s .pre .1, w₁ .write-number, w₂ .write-word))
+    (s .pre .0, omega (arith, book-size (bookEntries (s .args .book))))
 
 same-length : tie.Need-same-length
 same-length c = search needs

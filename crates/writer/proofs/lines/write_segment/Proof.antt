@@ -19,7 +19,7 @@ write-number-requires-2 : tie.Need-write-number-requires-2
 write-number-requires-2 c κs =
     let w₁ = c .before .before .before .before in
     let s = w₁ .before .before .before .before in
-    omega (arith, segment-size (s .args .s), s .pre, w₁ .write-number)
+    omega (arith, segment-size (s .args .s))
 
 slice-aggregate-write-number-3 : tie.Need-slice-aggregate-write-number-3
 slice-aggregate-write-number-3 c = search needs
@@ -29,7 +29,7 @@ write-number-requires-3 c κs =
     let w₂ = c .before .before .before .before in
     let w₁ = w₂ .before .before .before .before .before in
     let s = w₁ .before .before .before .before in
-    omega (arith, segment-size (s .args .s), s .pre, w₁ .write-number, w₂ .write-number2)
+    omega (arith, segment-size (s .args .s))
 
 write-cents-requires : tie.Need-write-cents-requires
 write-cents-requires c κs =
@@ -37,7 +37,7 @@ write-cents-requires c κs =
     let w₂ = w₃ .before .before .before .before .before in
     let w₁ = w₂ .before .before .before .before .before in
     let s = w₁ .before .before .before .before in
-    omega (arith, segment-size (s .args .s), s .pre, w₁ .write-number, w₂ .write-number2, w₃ .write-number3)
+    omega (arith, segment-size (s .args .s))
 
 slice-aggregate-write-word : tie.Need-slice-aggregate-write-word
 slice-aggregate-write-word c = search needs
@@ -49,7 +49,7 @@ write-word-requires c κs =
     let w₂ = w₃ .before .before .before .before .before in
     let w₁ = w₂ .before .before .before .before .before in
     let s = w₁ .before .before .before .before in
-    omega (arith, segment-size (s .args .s), s .pre, w₁ .write-number, w₂ .write-number2, w₃ .write-number3, w₄ .write-cents)
+    omega (arith, segment-size (s .args .s))
 
 same-length : tie.Need-same-length
 same-length c = search needs
