@@ -24,10 +24,10 @@ wrote-after out at a room w (_then_ {p} {ps} v vs) =
     let fits : at + length a ≤ length out = omega (arith, length-append a (p ++ joined (λ q. q) ps)) in
     rw (← append-assoc a p _) (wrote-after out at (a ++ p) (rw append-assoc room) (wrote-then out at a _ _ p _ _ fits w v) vs)
 
--- the text that the parts are together
+-- all of them, as the text that they are together
 pub wrote-all : {out : List ℕ} {at : ℕ} {ps : List (List ℕ)} {text exit : List ℕ} {end : ℕ} → at + length text ≤ length out
     → WroteAll out at ps exit end → joined (λ p. p) ps ≡ text → Wrote out at text exit end
 wrote-all {out} {at} room ws same = wrote-as out at _ _ _ _ same (wrote-after out at [] (rw same room) (wrote-none out at) ws)
 
--- that they are: the texts bracketed alike
+-- for `simp`, to show that they are: the two texts bracketed alike
 pub ruleset together = (append-assoc, append-nil)
