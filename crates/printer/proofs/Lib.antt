@@ -1,3 +1,4 @@
 pub mod Written
+pub mod Parts
 pub mod Digits
 pub mod Signs

@@ -1,7 +1,8 @@
 use native.Mathlib.Omega.{arith}
 use borrow.Author.Needs.{needs}
+use Rattle.sheettext.specs.Sheet.{rowText}
 use Rattle.sheettext.proofs.Sizes.{row-size}
-use Rattle.sheet.proofs.Parts.{wrote-row}
+use Rattle.printer.proofs.Parts.{done, _then_, wrote-all, together}
 use Rattle.sheet.proofs.lines.write_row.Statement.{statement}
 use Rattle.sheet.proofs.lines.write_row.Tie as tie
 
@@ -20,7 +21,7 @@ write-number-requires-2 : tie.Need-write-number-requires-2
 write-number-requires-2 c κs =
     let w₁ = c .before .before .before .before in
     let s = w₁ .before .before .before .before .before in
-    omega (arith, row-size (s .args .row), s .pre, w₁ .write-number)
+    omega (arith, row-size (s .args .row))
 
 slice-aggregate-write-number-3 : tie.Need-slice-aggregate-write-number-3
 slice-aggregate-write-number-3 c = search needs
@@ -30,7 +31,7 @@ write-number-requires-3 c κs =
     let w₂ = c .before .before .before .before in
     let w₁ = w₂ .before .before .before .before .before in
     let s = w₁ .before .before .before .before .before in
-    omega (arith, row-size (s .args .row), s .pre, w₁ .write-number, w₂ .write-number2)
+    omega (arith, row-size (s .args .row))
 
 write-cents-requires : tie.Need-write-cents-requires
 write-cents-requires c κs =
@@ -38,7 +39,7 @@ write-cents-requires c κs =
     let w₂ = w₃ .before .before .before .before .before in
     let w₁ = w₂ .before .before .before .before .before in
     let s = w₁ .before .before .before .before .before in
-    omega (arith, row-size (s .args .row), s .pre, w₁ .write-number, w₂ .write-number2, w₃ .write-number3)
+    omega (arith, row-size (s .args .row))
 
 slice-aggregate-write-number-4 : tie.Need-slice-aggregate-write-number-4
 slice-aggregate-write-number-4 c = search needs
@@ -50,7 +51,7 @@ write-number-requires-4 c κs =
     let w₂ = w₃ .before .before .before .before .before in
     let w₁ = w₂ .before .before .before .before .before in
     let s = w₁ .before .before .before .before .before in
-    omega (arith, row-size (s .args .row), s .pre, w₁ .write-number, w₂ .write-number2, w₃ .write-number3, w₄ .write-cents)
+    omega (arith, row-size (s .args .row))
 
 write-without-requires : tie.Need-write-without-requires
 write-without-requires c κs =
@@ -60,13 +61,13 @@ write-without-requires c κs =
     let w₂ = w₃ .before .before .before .before .before in
     let w₁ = w₂ .before .before .before .before .before in
     let s = w₁ .before .before .before .before .before in
-    omega
-    (arith, row-size (s .args .row), s .pre, w₁ .write-number, w₂ .write-number2, w₃ .write-number3, w₄ .write-cents, w₅ .write-number4)
+    omega (arith, row-size (s .args .row))
 
 same-length : tie.Need-same-length
 same-length c = search needs
 
 returns : tie.Need-returns
+unfolding rowText
 returns c =
     let w₆ = c .before .before in
     let w₅ = w₆ .before .before .before .before in
@@ -75,35 +76,10 @@ returns c =
     let w₂ = w₃ .before .before .before .before .before in
     let w₁ = w₂ .before .before .before .before .before in
     let s = w₁ .before .before .before .before .before in
-    let a = w₁ .write-number in
-    let b = w₂ .write-number2 in
-    let d = w₃ .write-number3 in
-    let e = w₄ .write-cents in
-    let f = w₅ .write-number4 in
-    let g = w₆ .write-without in
-    wrote-row
-    (s .args .out .now)
-    (s .args .at)
-    (s .args .row)
-    (a .last .0)
-    (b .last .0)
-    (d .last .0)
-    (e .last .0)
-    (f .last .0)
-    (g .last .0)
-    (a .result)
-    (b .result)
-    (d .result)
-    (e .result)
-    (f .result)
-    (g .result)
-    (s .pre)
-    (a .ensures)
-    (b .ensures)
-    (d .ensures)
-    (e .ensures)
-    (f .ensures)
-    (g .ensures)
+    wrote-all (s .pre)
+    (w₁ .write-number .ensures then w₂ .write-number2 .ensures then w₃ .write-number3 .ensures then w₄ .write-cents .ensures
+    then w₅ .write-number4 .ensures then w₆ .write-without .ensures then done)
+    (simp together)
 
 pub write-row-spec : {M : Type 1} → statement M
 write-row-spec =

@@ -1,7 +1,8 @@
 use native.Mathlib.Omega.{arith}
 use borrow.Author.Needs.{needs}
+use Rattle.sheettext.specs.Sheet.{sheetText}
 use Rattle.sheettext.proofs.Sizes.{sheet-size}
-use Rattle.sheet.proofs.Parts.{wrote-sheet}
+use Rattle.printer.proofs.Parts.{done, _then_, wrote-all, together}
 use Rattle.sheet.proofs.lines.write_sheet.Statement.{statement}
 use Rattle.sheet.proofs.lines.write_sheet.Tie as tie
 
@@ -15,7 +16,7 @@ write-cents-requires : tie.Need-write-cents-requires
 write-cents-requires c κs =
     let w₁ = c .before .before .before in
     let s = w₁ .before .before .before .before .before in
-    omega (arith, sheet-size (s .args .award), s .pre, w₁ .write-number)
+    omega (arith, sheet-size (s .args .award))
 
 slice-aggregate-write-word : tie.Need-slice-aggregate-write-word
 slice-aggregate-write-word c = search needs
@@ -25,7 +26,7 @@ write-word-requires c κs =
     let w₂ = c .before .before .before .before in
     let w₁ = w₂ .before .before .before .before in
     let s = w₁ .before .before .before .before .before in
-    omega (arith, sheet-size (s .args .award), s .pre, w₁ .write-number, w₂ .write-cents)
+    omega (arith, sheet-size (s .args .award))
 
 write-rows-requires : tie.Need-write-rows-requires
 write-rows-requires c κs =
@@ -33,39 +34,22 @@ write-rows-requires c κs =
     let w₂ = w₃ .before .before .before .before .before in
     let w₁ = w₂ .before .before .before .before in
     let s = w₁ .before .before .before .before .before in
-    omega (arith, sheet-size (s .args .award), s .pre, w₁ .write-number, w₂ .write-cents, w₃ .write-word)
+    omega (arith, sheet-size (s .args .award))
 
 same-length : tie.Need-same-length
 same-length c = search needs
 
 returns : tie.Need-returns
+unfolding sheetText
 returns c =
     let w₄ = c .before .before in
     let w₃ = w₄ .before .before .before .before in
     let w₂ = w₃ .before .before .before .before .before in
     let w₁ = w₂ .before .before .before .before in
     let s = w₁ .before .before .before .before .before in
-    let a = w₁ .write-number in
-    let b = w₂ .write-cents in
-    let d = w₃ .write-word in
-    let e = w₄ .write-rows in
-    wrote-sheet
-    (s .args .out .now)
-    0
-    (s .args .award)
-    (a .last .0)
-    (b .last .0)
-    (d .last .0)
-    (e .last .0)
-    (a .result)
-    (b .result)
-    (d .result)
-    (e .result)
-    (omega (arith, s .pre))
-    (a .ensures)
-    (b .ensures)
-    (d .ensures)
-    (e .ensures)
+    wrote-all (omega (arith, s .pre))
+    (w₁ .write-number .ensures then w₂ .write-cents .ensures then w₃ .write-word .ensures then w₄ .write-rows .ensures then done)
+    (simp together)
 
 pub write-sheet-spec : {M : Type 1} → statement M
 write-sheet-spec =

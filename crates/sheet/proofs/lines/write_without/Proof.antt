@@ -1,5 +1,7 @@
+use native.Mathlib.Omega.{arith}
 use borrow.Author.Needs.{needs}
-use Rattle.sheet.proofs.Parts.{wrote-without}
+use lib.ListN.{length-append}
+use Rattle.printer.proofs.Parts.{done, _then_, wrote-all, together}
 use Rattle.sheet.proofs.lines.write_without.Statement.{statement}
 use Rattle.sheet.proofs.lines.write_without.Tie as tie
 
@@ -27,11 +29,9 @@ returns c =
     let w₂ = w₃ .before .before .before .before .before in
     let w₁ = w₂ .before .before .before .before in
     let s = w₁ .before .before .before .before in
-    let a = w₁ .write-word in
-    let b = w₂ .write-total in
-    let d = w₃ .write-word2 in
-    wrote-without (s .args .out .now) (s .args .at) (s .args .total) (a .last .0) (b .last .0) (d .last .0) (a .result) (b .result)
-    (d .result) (s .pre) (a .ensures) (b .ensures) (d .ensures)
+    wrote-all (simp length-append (omega (arith, s .pre)))
+    (w₁ .write-word .ensures then w₂ .write-total .ensures then w₃ .write-word2 .ensures then done)
+    (simp together)
 
 pub write-without-spec : {M : Type 1} → statement M
 write-without-spec =

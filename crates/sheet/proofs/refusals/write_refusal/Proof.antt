@@ -5,8 +5,9 @@ use borrow.Author.Needs.{needs}
 use lib.ListN.{length}
 use Rattle.output.proofs.Answers.{too-short, in-full}
 use Rattle.refusal.specs.declared.Verdict.the-variants.{Accepted}
+use Rattle.printer.proofs.Parts.{done, _then_, wrote-all, together}
 use Rattle.sheettext.specs.Sheet.{refusalText}
-use Rattle.sheet.proofs.RefusalLine.{line-size, wrote-refusal}
+use Rattle.sheettext.proofs.Sizes.{refusal-size}
 use Rattle.sheet.proofs.refusals.write_refusal.Statement.{statement}
 use Rattle.sheet.proofs.refusals.write_refusal.Tie as tie
 
@@ -34,7 +35,7 @@ measured : (c : tie.After-digit-count2)
 measured c =
     let place = c .before .before in
     let number = place .before in
-    let line = line-size (number .before .before .args .verdict) _ _ (number .number .ensures) (place .place .ensures) in
+    let line = rw (← number .number .ensures, ← place .place .ensures) at (refusal-size (number .before .before .args .verdict)) in
     omega arith
 
 too-short-requires : tie.Need-too-short-requires
@@ -73,6 +74,7 @@ whole-requires : tie.Need-whole-requires
 whole-requires c κs = search needs
 
 returns-2 : tie.Need-returns-2
+unfolding refusalText
 returns-2 c =
     let answer = c .whole in
     let w₃ = c .before .before .before in
@@ -84,8 +86,9 @@ returns-2 c =
     let number = place .before in
     let a = number .before .before .args in
     let line =
-    wrote-refusal (a .verdict) _ _ (number .number .ensures) (place .place .ensures) (a .out .now) 0 _ _ _ _ _ _
-    (omega (arith, measured size, fits .if1 .left)) (w₁ .write-number .ensures) (w₂ .write-number2 .ensures) (w₃ .write-word .ensures) in
+    wrote-all {text = refusalText (a .verdict)} (omega (arith, measured size, fits .if1 .left))
+    (w₁ .write-number .ensures then w₂ .write-number2 .ensures then w₃ .write-word .ensures then done)
+    (simp (together, number .number .ensures, place .place .ensures)) in
     in-full Accepted (refusalText (a .verdict)) (a .out .now) refl _ (sym (measured size)) (answer .result) (answer .ensures)
     (omega (arith, fits .if1 .left)) (w₃ .write-word .last .0) (line .1)
 

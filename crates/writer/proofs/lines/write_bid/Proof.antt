@@ -1,8 +1,9 @@
 use native.Mathlib.Omega.{arith}
 use borrow.Author.Needs.{needs}
 use Rattle.book.specs.Entries.{bidEntries}
+use Rattle.booktext.specs.BookText.{bidText}
+use Rattle.printer.proofs.Parts.{done, _then_, wrote-all, together}
 use Rattle.writer.proofs.Sizes.{bid-size}
-use Rattle.writer.proofs.Parts.{wrote-bid}
 use Rattle.writer.proofs.lines.write_bid.Statement.{statement}
 use Rattle.writer.proofs.lines.write_bid.Tie as tie
 
@@ -16,7 +17,7 @@ write-segments-requires : tie.Need-write-segments-requires
 write-segments-requires c κs =
     let w₁ = c .before .before .before in
     let s = w₁ .before .before .before .before in
-    (s .pre .0, omega (arith, bid-size (bidEntries (s .args .bid)), s .pre .1, w₁ .write-number))
+    (s .pre .0, omega (arith, bid-size (bidEntries (s .args .bid))))
 
 slice-aggregate-write-word : tie.Need-slice-aggregate-write-word
 slice-aggregate-write-word c = search needs
@@ -26,22 +27,20 @@ write-word-requires c κs =
     let w₂ = c .before .before .before .before in
     let w₁ = w₂ .before .before .before .before in
     let s = w₁ .before .before .before .before in
-    omega (arith, bid-size (bidEntries (s .args .bid)), s .pre .1, w₁ .write-number, w₂ .write-segments)
+    omega (arith, bid-size (bidEntries (s .args .bid)))
 
 same-length : tie.Need-same-length
 same-length c = search needs
 
 returns : tie.Need-returns
+unfolding bidText
 returns c =
     let w₃ = c .before .before in
     let w₂ = w₃ .before .before .before .before .before in
     let w₁ = w₂ .before .before .before .before in
     let s = w₁ .before .before .before .before in
-    let a = w₁ .write-number in
-    let b = w₂ .write-segments in
-    let d = w₃ .write-word in
-    wrote-bid (s .args .out .now) (s .args .at) (bidEntries (s .args .bid)) (a .last .0) (b .last .0) (d .last .0) (a .result) (b .result)
-    (d .result) (s .pre .1) (a .ensures) (b .ensures) (d .ensures)
+    wrote-all (s .pre .1) (w₁ .write-number .ensures then w₂ .write-segments .ensures then w₃ .write-word .ensures then done)
+    (simp together)
 
 pub write-bid-spec : {M : Type 1} → statement M
 write-bid-spec =

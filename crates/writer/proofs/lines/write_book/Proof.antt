@@ -1,8 +1,9 @@
 use native.Mathlib.Omega.{arith}
 use borrow.Author.Needs.{needs}
 use Rattle.book.specs.Entries.{bookEntries}
+use Rattle.booktext.specs.BookText.{bookText}
+use Rattle.printer.proofs.Parts.{done, _then_, wrote-all, together}
 use Rattle.writer.proofs.Sizes.{book-size}
-use Rattle.writer.proofs.Parts.{wrote-book}
 use Rattle.writer.proofs.lines.write_book.Statement.{statement}
 use Rattle.writer.proofs.lines.write_book.Tie as tie
 
@@ -19,29 +20,27 @@ write-word-requires : tie.Need-write-word-requires
 write-word-requires c κs =
     let w₁ = c .before .before .before .before in
     let s = w₁ .before .before .before .before in
-    omega (arith, book-size (bookEntries (s .args .book)), s .pre .1, w₁ .write-number)
+    omega (arith, book-size (bookEntries (s .args .book)))
 
 write-bids-requires : tie.Need-write-bids-requires
 write-bids-requires c κs =
     let w₂ = c .before .before .before in
     let w₁ = w₂ .before .before .before .before .before in
     let s = w₁ .before .before .before .before in
-    (s .pre .0, omega (arith, book-size (bookEntries (s .args .book)), s .pre .1, w₁ .write-number, w₂ .write-word))
+    (s .pre .0, omega (arith, book-size (bookEntries (s .args .book))))
 
 same-length : tie.Need-same-length
 same-length c = search needs
 
 returns : tie.Need-returns
+unfolding bookText
 returns c =
     let w₃ = c .before .before in
     let w₂ = w₃ .before .before .before .before in
     let w₁ = w₂ .before .before .before .before .before in
     let s = w₁ .before .before .before .before in
-    let a = w₁ .write-number in
-    let b = w₂ .write-word in
-    let d = w₃ .write-bids in
-    wrote-book (s .args .out .now) 0 (bookEntries (s .args .book)) (a .last .0) (b .last .0) (d .last .0) (a .result) (b .result)
-    (d .result) (omega (arith, s .pre .1)) (a .ensures) (b .ensures) (d .ensures)
+    wrote-all (omega (arith, s .pre .1)) (w₁ .write-number .ensures then w₂ .write-word .ensures then w₃ .write-bids .ensures then done)
+    (simp together)
 
 pub write-book-spec : {M : Type 1} → statement M
 write-book-spec =

@@ -1,7 +1,8 @@
 use native.Mathlib.Omega.{arith}
 use borrow.Author.Needs.{needs}
+use Rattle.booktext.specs.BookText.{segmentText}
+use Rattle.printer.proofs.Parts.{done, _then_, wrote-all, together}
 use Rattle.writer.proofs.Sizes.{segment-size}
-use Rattle.writer.proofs.Parts.{wrote-segment}
 use Rattle.writer.proofs.lines.write_segment.Statement.{statement}
 use Rattle.writer.proofs.lines.write_segment.Tie as tie
 
@@ -18,7 +19,7 @@ write-number-requires-2 : tie.Need-write-number-requires-2
 write-number-requires-2 c κs =
     let w₁ = c .before .before .before .before in
     let s = w₁ .before .before .before .before in
-    omega (arith, segment-size (s .args .s), s .pre, w₁ .write-number)
+    omega (arith, segment-size (s .args .s))
 
 slice-aggregate-write-number-3 : tie.Need-slice-aggregate-write-number-3
 slice-aggregate-write-number-3 c = search needs
@@ -28,7 +29,7 @@ write-number-requires-3 c κs =
     let w₂ = c .before .before .before .before in
     let w₁ = w₂ .before .before .before .before .before in
     let s = w₁ .before .before .before .before in
-    omega (arith, segment-size (s .args .s), s .pre, w₁ .write-number, w₂ .write-number2)
+    omega (arith, segment-size (s .args .s))
 
 write-cents-requires : tie.Need-write-cents-requires
 write-cents-requires c κs =
@@ -36,7 +37,7 @@ write-cents-requires c κs =
     let w₂ = w₃ .before .before .before .before .before in
     let w₁ = w₂ .before .before .before .before .before in
     let s = w₁ .before .before .before .before in
-    omega (arith, segment-size (s .args .s), s .pre, w₁ .write-number, w₂ .write-number2, w₃ .write-number3)
+    omega (arith, segment-size (s .args .s))
 
 slice-aggregate-write-word : tie.Need-slice-aggregate-write-word
 slice-aggregate-write-word c = search needs
@@ -48,12 +49,13 @@ write-word-requires c κs =
     let w₂ = w₃ .before .before .before .before .before in
     let w₁ = w₂ .before .before .before .before .before in
     let s = w₁ .before .before .before .before in
-    omega (arith, segment-size (s .args .s), s .pre, w₁ .write-number, w₂ .write-number2, w₃ .write-number3, w₄ .write-cents)
+    omega (arith, segment-size (s .args .s))
 
 same-length : tie.Need-same-length
 same-length c = search needs
 
 returns : tie.Need-returns
+unfolding segmentText
 returns c =
     let w₅ = c .before .before in
     let w₄ = w₅ .before .before .before .before .before in
@@ -61,31 +63,10 @@ returns c =
     let w₂ = w₃ .before .before .before .before .before in
     let w₁ = w₂ .before .before .before .before .before in
     let s = w₁ .before .before .before .before in
-    let a = w₁ .write-number in
-    let b = w₂ .write-number2 in
-    let d = w₃ .write-number3 in
-    let e = w₄ .write-cents in
-    let f = w₅ .write-word in
-    wrote-segment
-    (s .args .out .now)
-    (s .args .at)
-    (s .args .s)
-    (a .last .0)
-    (b .last .0)
-    (d .last .0)
-    (e .last .0)
-    (f .last .0)
-    (a .result)
-    (b .result)
-    (d .result)
-    (e .result)
-    (f .result)
-    (s .pre)
-    (a .ensures)
-    (b .ensures)
-    (d .ensures)
-    (e .ensures)
-    (f .ensures)
+    wrote-all (s .pre)
+    (w₁ .write-number .ensures then w₂ .write-number2 .ensures then w₃ .write-number3 .ensures then w₄ .write-cents .ensures
+    then w₅ .write-word .ensures then done)
+    (simp together)
 
 pub write-segment-spec : {M : Type 1} → statement M
 write-segment-spec =
