@@ -8,22 +8,21 @@ use mathlib.Core.Path.{_≡_, sym, ap, _∙_}
 use borrow.Author.Tests.{le-leb, lt-leb}
 use lib.Dec.{leb}
 use lib.IntN.{ℤ, pos, natAbs, _+ℤ_, +ℤ-assoc, +ℤ-idl, +ℤ-idr}
-use lib.ListN.{length, getD, set, take, length-set, length-map}
+use lib.ListN.{length, set, take, length-set, length-map}
 use lib.Seq.{slice, slice-empty}
 use mir.Syntax.{w64}
 use mir.Val.{SFits}
-use Rattle.lists.proofs.Latest.{latest, latest-none, latest-next}
 use Rattle.lists.proofs.Slices.{map-set, slice-set}
 use Rattle.money.specs.declared.Blanks.{Blanks}
 use Rattle.money.proofs.Bounds.{natAbs-plus, small-fits}
 use Rattle.book.specs.declared.Segment.{Segment}
 use Rattle.book.specs.Rules.{priceOn}
-use Rattle.book.proofs.Records.{noSegment}
 use Rattle.book.proofs.InRange.{mostCents}
 use Rattle.divisions.specs.Award.{Priced}
 use Rattle.choices.proofs.Choice.{starts, ends, fits, width, share, shares, placed, costWith, filled}
 use Rattle.choices.proofs.Sound.{SoundSegment}
-use Rattle.filling.specs.Records.{blanksIn}
+use Rattle.filling.specs.Records.{firstRows, blanksIn}
+use Rattle.filling.proofs.Rows.{rows-none, rows-next}
 use Rattle.filling.proofs.Prices.{price-small}
 
 -- whether a choice fits, from the two sums
@@ -52,33 +51,33 @@ abbrev pub givenFrom : ℕ → List Segment → List ℕ
 givenFrom left c = placed c (shares left c)
 
 -- of n bidders with `all` to give, those from i on have their quantities, which cost `total`, and so much is left
-pub record Filling (xs : List Segment) (n all left : ℕ) (quantities : List Blanks) (total : ℤ) (i : ℕ) : Type 0 where
+pub record Filling (at : ℕ → Segment) (n all left : ℕ) (quantities : List Blanks) (total : ℤ) (i : ℕ) : Type 0 where
   pub within : i ≤ n
   pub held : length quantities ≡ 8
   pub size : natAbs total + mostCents * i ≤ mostCents * n
-  pub cost : total +ℤ costFrom left (latest noSegment xs i) ≡ costFrom all (latest noSegment xs n)
-  pub given : reverseAux (givenFrom left (latest noSegment xs i)) (slice i n (blanksIn quantities)) ≡ reverse (givenFrom all (latest noSegment xs n))
+  pub cost : total +ℤ costFrom left (firstRows at i) ≡ costFrom all (firstRows at n)
+  pub given : reverseAux (givenFrom left (firstRows at i)) (slice i n (blanksIn quantities)) ≡ reverse (givenFrom all (firstRows at n))
 
-pub filling-none : (xs : List Segment) (n all : ℕ) (quantities : List Blanks) → length quantities ≡ 8 → Filling xs n all all quantities (pos 0) n
-filling-none xs n all quantities h = record {
+pub filling-none : (at : ℕ → Segment) (n all : ℕ) (quantities : List Blanks) → length quantities ≡ 8 → Filling at n all all quantities (pos 0) n
+filling-none at n all quantities h = record {
   within = omega arith;
   held = h;
   size = omega arith;
-  cost = +ℤ-idl (costFrom all (latest noSegment xs n));
+  cost = +ℤ-idl (costFrom all (firstRows at n));
   given = rw (slice-empty n (blanksIn quantities));
 }
 
-module _ {xs : List Segment} {n all left : ℕ} {quantities : List Blanks} {total : ℤ} {i : ℕ} (filling : Filling xs n all left quantities total i) where
+module _ {at : ℕ → Segment} {n all left : ℕ} {quantities : List Blanks} {total : ℤ} {i : ℕ} (filling : Filling at n all left quantities total i) where
   -- the bidder before gets its share
-  module _ (k : ℕ) (is-next : i ≡ suc k) (few : n ≤ 8) (sound : SoundSegment (getD xs k noSegment)) where
+  module _ (k : ℕ) (is-next : i ≡ suc k) (few : n ≤ 8) (sound : SoundSegment (at k)) where
     abbrev this : Segment
-    this = getD xs k noSegment
+    this = at k
 
     abbrev earlier : List Segment
-    earlier = latest noSegment xs k
+    earlier = firstRows at k
 
-    here : latest noSegment xs i ≡ this ∷ earlier
-    here = ap (latest noSegment xs) is-next ∙ latest-next noSegment xs k
+    here : firstRows at i ≡ this ∷ earlier
+    here = ap (firstRows at) is-next ∙ rows-next at k
 
     module _ (x : ℕ) (is-share : x ≡ share left this earlier) (p : ℤ) (is-price : p ≡ priceOn this (this .start .0 + x)) where
       total-small : natAbs (total +ℤ p) + mostCents * k ≤ mostCents * n
@@ -90,7 +89,7 @@ module _ {xs : List Segment} {n all left : ℕ} {quantities : List Blanks} {tota
       pub total-fits : SFits w64 (total +ℤ p)
       total-fits = small-fits (total +ℤ p) (omega (arith, total-small))
 
-      next-cost : (total +ℤ p) +ℤ costFrom (left - x) earlier ≡ costFrom all (latest noSegment xs n)
+      next-cost : (total +ℤ p) +ℤ costFrom (left - x) earlier ≡ costFrom all (firstRows at n)
       next-cost =
           rw (is-price, is-share)
           (+ℤ-assoc total (priceOn this (this .start .0 + share left this earlier)) (costFrom (left - share left this earlier) earlier)
@@ -103,10 +102,10 @@ module _ {xs : List Segment} {n all left : ℕ} {quantities : List Blanks} {tota
             let below : k < n = omega (arith, filling .within) in
             rw (map-set, slice-set (blanksIn quantities) k n (q .0) below held, is-quantity, is-next, add-one)
 
-        next-given : reverseAux (givenFrom (left - x) earlier) (slice k n (blanksIn (set quantities k q))) ≡ reverse (givenFrom all (latest noSegment xs n))
+        next-given : reverseAux (givenFrom (left - x) earlier) (slice k n (blanksIn (set quantities k q))) ≡ reverse (givenFrom all (firstRows at n))
         next-given = rw (stored, is-share) (rw here at (filling .given))
 
-        pub filling-next : (total′ : ℤ) → total′ ≡ total +ℤ p → Filling xs n all (left - x) (set quantities k q) total′ k
+        pub filling-next : (total′ : ℤ) → total′ ≡ total +ℤ p → Filling at n all (left - x) (set quantities k q) total′ k
         filling-next total′ e = record {
           within = omega (arith, filling .within);
           held = rw length-set (filling .held);
@@ -117,16 +116,16 @@ module _ {xs : List Segment} {n all left : ℕ} {quantities : List Blanks} {tota
 
   -- every bidder has its share
   module _ (none-left : i ≡ 0) where
-    last : latest noSegment xs i ≡ []
-    last = ap (latest noSegment xs) none-left ∙ latest-none noSegment xs
+    last : firstRows at i ≡ []
+    last = ap (firstRows at) none-left ∙ rows-none at
 
-    all-cost : total ≡ costFrom all (latest noSegment xs n)
+    all-cost : total ≡ costFrom all (firstRows at n)
     all-cost = sym (+ℤ-idr total) ∙ rw last at (filling .cost)
 
-    all-given : take n (blanksIn quantities) ≡ reverse (givenFrom all (latest noSegment xs n))
+    all-given : take n (blanksIn quantities) ≡ reverse (givenFrom all (firstRows at n))
     all-given = rw none-left at (rw last at (filling .given))
 
-    pub filling-all : (demand : ℕ) → all ≡ demand - starts (latest noSegment xs n)
-        → _≡_ {A = Priced} (record { cost = total; quantities = take n (blanksIn quantities) }) (filled demand (latest noSegment xs n))
+    pub filling-all : (demand : ℕ) → all ≡ demand - starts (firstRows at n)
+        → _≡_ {A = Priced} (record { cost = total; quantities = take n (blanksIn quantities) }) (filled demand (firstRows at n))
     unfolding filled
     filling-all demand e = rw (all-cost, all-given, e)

@@ -1,3 +1,4 @@
+pub mod Rows
 pub mod Sums
 pub mod Prices
 pub mod Filling

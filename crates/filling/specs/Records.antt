@@ -1,27 +1,66 @@
 -- For the contracts of this crate, of `search` and of `clearing`: what the records of a choice and of a division hold.
-use Prim.Native.Nat.{ℕ, _≤_}
+use Prim.Native.Nat.{ℕ, zero, suc, _+_, _≤_, _<_}
 use mathlib.Core.Bool.{cond}
-use mathlib.Core.List.{List, map}
+use mathlib.Core.List.{List, [], _∷_, map}
 use mathlib.Core.Option.{Option, some, none}
-use lib.ListN.{take}
+use lib.IntN.{ℤ, pos}
+use lib.ListN.{getD, take}
 use Rattle.lists.specs.All.{All}
-use Rattle.lists.proofs.Latest.{latest}
 use Rattle.money.specs.declared.Blanks.{Blanks}
 use Rattle.book.specs.declared.Segment.{Segment}
-use Rattle.book.proofs.Records.{noSegment}
 use Rattle.divisions.specs.Award.{Priced}
+use Rattle.choices.proofs.Choice.{share}
 use Rattle.choices.proofs.Sound.{SoundSegment}
 use Rattle.filling.specs.declared.Choice.{Choice}
 use Rattle.filling.specs.declared.Best.{Best}
 
--- the chosen segments, that of the latest bidder first
-abbrev pub chosen : Choice → List Segment
-chosen c = latest noSegment (c .segments) (c .count)
+-- the first n numbers of a column, added up
+unfoldable pub sumOf : List ℕ → ℕ → ℕ
+sumOf xs zero = 0
+sumOf xs (suc n) = getD xs n 0 + sumOf xs n
+
+-- none of them is over a million
+abbrev pub Small : List ℕ → ℕ → Type 0
+Small xs n = (i : ℕ) → i < n → getD xs i 0 ≤ 1000000
+
+-- a choice by columns: the segment of bidder i
+abbrev pub row : List ℕ → List ℕ → List ℕ → List ℤ → ℕ → Segment
+row starts ends units fixed i = record {
+  start = record { 0 = getD starts i 0 };
+  end = record { 0 = getD ends i 0 };
+  unit = record { 0 = getD units i 0 };
+  fixed = record { 0 = getD fixed i (pos 0) };
+}
+
+-- the segments of the first n bidders, that of the latest bidder first
+unfoldable pub firstRows : (ℕ → Segment) → ℕ → List Segment
+firstRows at zero = []
+firstRows at (suc n) = at n ∷ firstRows at n
+
+abbrev pub rows : List ℕ → List ℕ → List ℕ → List ℤ → ℕ → List Segment
+rows starts ends units fixed n = firstRows (row starts ends units fixed) n
+
+-- what bidder i gets over its start, where there is so much left for it and those before it
+abbrev pub shareAt : ℕ → List ℕ → List ℕ → List ℕ → List ℤ → ℕ → ℕ
+shareAt left starts ends units fixed i = share left (row starts ends units fixed i) (rows starts ends units fixed i)
 
 -- what the search keeps of a choice: at most eight bidders, and segments as those of accepted bids are
-pub record Sound (c : Choice) : Type 0 where
-  pub few : c .count ≤ 8
-  pub each : All SoundSegment (chosen c)
+pub record SoundRows (starts ends units : List ℕ) (fixed : List ℤ) (n : ℕ) : Type 0 where
+  pub few : n ≤ 8
+  pub each : All SoundSegment (rows starts ends units fixed n)
+
+-- and of its starts and ends alone
+pub record Ranges (starts ends : List ℕ) (n : ℕ) : Type 0 where
+  pub few : n ≤ 8
+  pub order : (i : ℕ) → i < n → getD starts i 0 ≤ getD ends i 0
+  pub high : (i : ℕ) → i < n → getD ends i 0 ≤ 1000000
+
+-- of the record of a choice
+abbrev pub chosen : Choice → List Segment
+chosen c = rows (c .starts) (c .ends) (c .units) (c .fixed) (c .count)
+
+abbrev pub Sound : Choice → Type 0
+Sound c = SoundRows (c .starts) (c .ends) (c .units) (c .fixed) (c .count)
 
 -- quantities as numbers
 abbrev pub blanksIn : List Blanks → List ℕ

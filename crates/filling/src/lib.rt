@@ -1,21 +1,27 @@
 // A choice of a segment for each bidder: whether it fits the demand, and the cheapest quantities within it.
 ghost use mathlib.Core.Path.{_≡_};
 ghost use mathlib.Core.Bool.{true};
-ghost use Prim.Native.Nat.{_≤_, _<_};
+ghost use mathlib.Core.List.{List};
+ghost use Prim.Native.Nat.{ℕ, _+_, _≤_, _<_};
 ghost use lib.Dec.{leb};
-ghost use lib.ListN.{getD};
-ghost use Rattle.lists.proofs.Latest.{latest};
-ghost use Rattle.book.proofs.Records.{noSegment};
-ghost use Rattle.choices.proofs.Choice.{starts, ends, fits, cheaper, share, filled};
-ghost use Rattle.filling.specs.Records.{chosen, Sound, divisionIn};
+ghost use lib.IntN.{ℤ};
+ghost use Rattle.choices.proofs.Choice.{fits, cheaper, filled};
+ghost use Rattle.choices.proofs.Sound.{SoundSegment};
+ghost use Rattle.filling.specs.Records.{sumOf, Small, row, rows, SoundRows, Ranges, shareAt, divisionIn};
 use book::Segment;
 use money::Blanks;
 use money::Cents;
+use money::CentsPerBlank;
 
-// A segment chosen for each of the first `count` bidders, in book order; the others are ignored.
+// A segment chosen for each of the first `count` bidders, in book order; the others are ignored. Each part
+// of the segments is a column of numbers: such a column is lent, where a record would be copied, and the
+// search has millions of choices.
 pub struct Choice {
     pub count: usize,
-    pub segments: [Segment; 8],
+    pub starts: [u64; 8],
+    pub ends: [u64; 8],
+    pub units: [u64; 8],
+    pub fixed: [i64; 8],
 }
 
 // A division, if one was found: its cost, and a quantity for each bidder in book order.
@@ -25,46 +31,45 @@ pub struct Best {
     pub quantities: [Blanks; 8],
 }
 
-// The starts of the chosen segments, added up afresh where a choice is tested.
-fn starts(c: Choice) -> u64
-    requires { ⌜ Sound c ⌝ }
-    ensures { λ r. ⌜ r ≡ starts (chosen c) ⌝ }
+// The first n numbers of a column, added up afresh where a choice is tested.
+fn sum(column: &[u64; 8], n: usize) -> u64
+    requires { ⌜ n ≤ 8 ⌝ }
+    requires { ⌜ Small (now column) n ⌝ }
+    ensures { λ r. ⌜ r ≡ sumOf (now (column .entry)) n ⌝ }
 {
     let mut sum: u64 = 0;
     let mut i: usize = 0;
-    while i < c.count {
-        let s = c.segments[i];
-        sum += s.start.0;
+    while i < n {
+        sum += column[i];
         i += 1;
     }
     sum
 }
 
-// Their ends, likewise.
-fn ends(c: Choice) -> u64
-    requires { ⌜ Sound c ⌝ }
-    ensures { λ r. ⌜ r ≡ ends (chosen c) ⌝ }
+// The starts add up to at most the demand, and the ends to at least it; prices do not matter. It is pub,
+// as `fill` is, for the search.
+pub fn fits(starts: &[u64; 8], ends: &[u64; 8], n: usize, demand: Blanks) -> bool
+    requires { ⌜ Ranges (now starts) (now ends) n ⌝ }
+    ensures { λ r. ⌜ ((units : List ℕ) (fixed : List ℤ) → r ≡ fits (demand .0) (rows (now (starts .entry)) (now (ends .entry)) units fixed n)) ⌝ }
 {
-    let mut sum: u64 = 0;
-    let mut i: usize = 0;
-    while i < c.count {
-        let s = c.segments[i];
-        sum += s.end.0;
-        i += 1;
-    }
-    sum
-}
-
-// The starts add up to at most the demand, and the ends to at least it. It is pub, as `fill` is, for
-// the search.
-pub fn fits(c: Choice, demand: Blanks) -> bool
-    requires { ⌜ Sound c ⌝ }
-    ensures { λ r. ⌜ r ≡ fits (demand .0) (chosen c) ⌝ }
-{
-    if demand.0 < starts(c) {
+    if demand.0 < sum(starts, n) {
         return false;
     }
-    demand.0 <= ends(c)
+    demand.0 <= sum(ends, n)
+}
+
+// The segment chosen for bidder i.
+fn row(starts: &[u64; 8], ends: &[u64; 8], units: &[u64; 8], fixed: &[i64; 8], i: usize) -> Segment
+    requires { ⌜ i < 8 ⌝ }
+    requires { ⌜ SoundSegment (row (now starts) (now ends) (now units) (now fixed) i) ⌝ }
+    ensures { λ r. ⌜ r ≡ row (now (starts .entry)) (now (ends .entry)) (now (units .entry)) (now (fixed .entry)) i ⌝ }
+{
+    Segment {
+        start: Blanks(starts[i]),
+        end: Blanks(ends[i]),
+        unit: CentsPerBlank(units[i]),
+        fixed: Cents(fixed[i]),
+    }
 }
 
 // Whether a further blank costs no more on s than `unit`. Its unit price decides, and not what its
@@ -77,15 +82,21 @@ fn no_dearer(s: Segment, unit: u64) -> bool
 
 // What the first n of the chosen segments can take over their starts, of those that are no dearer
 // than `unit`.
-fn cheaper(c: Choice, n: usize, unit: u64) -> u64
-    requires { ⌜ Sound c ⌝ }
-    requires { ⌜ n ≤ c .count ⌝ }
-    ensures { λ r. ⌜ r ≡ cheaper unit (latest noSegment (c .segments) n) ⌝ }
+fn cheaper(
+    starts: &[u64; 8],
+    ends: &[u64; 8],
+    units: &[u64; 8],
+    fixed: &[i64; 8],
+    n: usize,
+    unit: u64,
+) -> u64
+    requires { ⌜ SoundRows (now starts) (now ends) (now units) (now fixed) n ⌝ }
+    ensures { λ r. ⌜ r ≡ cheaper unit (rows (now (starts .entry)) (now (ends .entry)) (now (units .entry)) (now (fixed .entry)) n) ⌝ }
 {
     let mut sum: u64 = 0;
     let mut i: usize = 0;
     while i < n {
-        let s = c.segments[i];
+        let s = row(starts, ends, units, fixed, i);
         if no_dearer(s, unit) {
             sum += s.end.0 - s.start.0;
         }
@@ -96,14 +107,20 @@ fn cheaper(c: Choice, n: usize, unit: u64) -> u64
 
 // What bidder i gets over its start, where there is so much left for it and those before it: what
 // those of them who are no dearer cannot take.
-fn share(c: Choice, i: usize, left: u64) -> u64
-    requires { ⌜ Sound c ⌝ }
-    requires { ⌜ i < c .count ⌝ }
-    ensures { λ r. ⌜ r ≡ share left (getD (c .segments) i noSegment) (latest noSegment (c .segments) i) ⌝ }
+fn share(
+    starts: &[u64; 8],
+    ends: &[u64; 8],
+    units: &[u64; 8],
+    fixed: &[i64; 8],
+    i: usize,
+    left: u64,
+) -> u64
+    requires { ⌜ SoundRows (now starts) (now ends) (now units) (now fixed) (i + 1) ⌝ }
+    ensures { λ r. ⌜ r ≡ shareAt left (now (starts .entry)) (now (ends .entry)) (now (units .entry)) (now (fixed .entry)) i ⌝ }
 {
-    let s = c.segments[i];
+    let s = row(starts, ends, units, fixed, i);
     let width = s.end.0 - s.start.0;
-    let earlier = cheaper(c, i, s.unit.0);
+    let earlier = cheaper(starts, ends, units, fixed, i, s.unit.0);
     if left <= earlier {
         return 0;
     }
@@ -116,26 +133,33 @@ fn share(c: Choice, i: usize, left: u64) -> u64
 
 // The cheapest quantities within a choice that fits: from the last bidder to the first, each gets its
 // share of what is left.
-pub fn fill(c: Choice, demand: Blanks) -> Best
-    requires { ⌜ Sound c ⌝ }
-    requires { ⌜ fits (demand .0) (chosen c) ≡ true ⌝ }
+pub fn fill(
+    starts: &[u64; 8],
+    ends: &[u64; 8],
+    units: &[u64; 8],
+    fixed: &[i64; 8],
+    n: usize,
+    demand: Blanks,
+) -> Best
+    requires { ⌜ SoundRows (now starts) (now ends) (now units) (now fixed) n ⌝ }
+    requires { ⌜ fits (demand .0) (rows (now starts) (now ends) (now units) (now fixed) n) ≡ true ⌝ }
     ensures { λ r. ⌜ r .found ≡ true ⌝ }
-    ensures { λ r. ⌜ divisionIn (c .count) r ≡ filled (demand .0) (chosen c) ⌝ }
+    ensures { λ r. ⌜ divisionIn n r ≡ filled (demand .0) (rows (now (starts .entry)) (now (ends .entry)) (now (units .entry)) (now (fixed .entry)) n) ⌝ }
 {
-    let mut left = demand.0 - starts(c);
+    let mut left = demand.0 - sum(starts, n);
     let mut quantities = [Blanks(0); 8];
     let mut total = Cents(0);
-    let mut i = c.count;
+    let mut i = n;
     while 0 < i {
         i -= 1;
-        let s = c.segments[i];
-        let x = share(c, i, left);
+        let s = row(starts, ends, units, fixed, i);
+        let x = share(starts, ends, units, fixed, i, left);
         left -= x;
         let quantity = Blanks(s.start.0 + x);
         quantities[i] = quantity;
         let unit = s.unit;
-        let fixed = s.fixed;
-        let price = money::price(unit, quantity, fixed);
+        let fixed_price = s.fixed;
+        let price = money::price(unit, quantity, fixed_price);
         total = money::plus(total, price);
     }
     Best {

@@ -1,50 +1,52 @@
-use Prim.Native.Nat.{_-_}
-use mathlib.Core.Logic.{⊎-elim}
-use mathlib.Core.Path.{refl, sym, _∙_}
+use Prim.Native.Nat.{ℕ, _+_, _-_}
 use native.Mathlib.Omega.{arith}
+use mathlib.Core.Logic.{⊎-elim}
+use mathlib.Core.Path.{_≡_, sym, ap, subst⁻¹, _∙_}
 use borrow.Author.Needs.{needs}
 use borrow.Author.Tests.{leb-true, leb-false}
-use lib.ListN.{getD}
 use Rattle.book.specs.declared.Segment.{Segment}
-use Rattle.book.proofs.Records.{noSegment}
-use Rattle.choices.proofs.Choice.{cheaper, widthAt}
+use Rattle.choices.proofs.Choice.{widthAt}
 use Rattle.choices.proofs.Sound.{SoundSegment}
-use Rattle.filling.proofs.Sums.{Summed, summed-none, summed-next, summed-all, sound-at, width-counts, dearer}
+use Rattle.filling.specs.Records.{row}
+use Rattle.filling.proofs.Rows.{sound-row}
+use Rattle.filling.proofs.Sums.{Summed, summed-none, summed-next, summed-all}
+use Rattle.filling.proofs.Sums.{cheaperTo, cheaper-none, cheaper-next, width-counts, dearer}
 use Rattle.filling.proofs.cheaper.Statement.{statement}
 use Rattle.filling.proofs.cheaper.Tie as tie
 
 abbrev Inv-loop : tie.InvT-loop
-Inv-loop n unit c sum₀ i₀ sum i = Summed (cheaper unit) (c .segments) n i sum
+Inv-loop starts ends units fixed n unit sum₀ i₀ sum i = Summed (cheaperTo unit (row starts ends units fixed)) n i sum
 
 abbrev μ-loop : tie.MeasureT-loop
-μ-loop n unit c sum₀ i₀ sum i = n - i
+μ-loop starts ends units fixed n unit sum₀ i₀ sum i = n - i
 
--- the bidder's segment
-abbrev this : tie.In-loop Inv-loop μ-loop → Segment
-this c = getD (c .before .before .args .t1 .segments) (c .before .loop .i) noSegment
+-- the bidders' segments
+abbrev segments : tie.Start Inv-loop μ-loop → ℕ → Segment
+segments s = row (s .args .starts .now) (s .args .ends .now) (s .args .units .now) (s .args .fixed .now)
 
-here : (c : tie.In-loop Inv-loop μ-loop) → SoundSegment (this c)
-here c =
-    let s = c .before .before in
-    sound-at (s .args .t1 .segments) (s .args .t1 .count) (c .before .loop .i) (s .pre .0 .each) (omega arith)
+sound : (c : tie.In-loop Inv-loop μ-loop) → SoundSegment (segments (c .before .before) (c .before .loop .i))
+sound c = sound-row (c .before .before .pre) (c .before .loop .i) (c .loop-test .taken)
+
+-- that of the bidder in turn
+here : (c : tie.After-row Inv-loop μ-loop) → SoundSegment (c .row .result)
+here c = subst⁻¹ SoundSegment (c .row .ensures) (sound (c .before))
 
 loop-holds : tie.Need-loop-holds Inv-loop μ-loop
-loop-holds c = summed-none (cheaper (c .args .unit)) _ _ refl
+loop-holds c = summed-none _ _ (cheaper-none _ _)
 
-mul-s : tie.Need-mul-s Inv-loop μ-loop
-mul-s c = search needs
-
-element-copy-out-s : tie.Need-element-copy-out-s Inv-loop μ-loop
-element-copy-out-s c = search needs
+row-requires : tie.Need-row-requires Inv-loop μ-loop
+row-requires c κs = (omega (arith, c .before .before .pre .few), sound c)
 
 no-dearer-requires : tie.Need-no-dearer-requires Inv-loop μ-loop
 no-dearer-requires c κs = search needs
 
 sub-sum : tie.Need-sub-sum Inv-loop μ-loop
-sub-sum c = here (c .before .before .before .before) .order
+sub-sum c = here (c .before .before .before) .order
 
 add-sum : tie.Need-add-sum Inv-loop μ-loop
-add-sum c = let high = here (c .before .before .before .before) in omega arith
+add-sum c =
+    let high = here (c .before .before .before) in
+    omega (arith, c .before .before .before .before .before .before .pre .few)
 
 add-i : tie.Need-add-i Inv-loop μ-loop
 add-i c = search needs
@@ -54,14 +56,20 @@ loop-less c = search needs
 
 loop-again : tie.Need-loop-again Inv-loop μ-loop
 loop-again c =
-    let l = c .before .before .before in
-    let high = here l in
+    let r = c .before .before in
+    let l = r .before in
+    let s = l .before .before in
+    let i = l .before .loop .i in
+    let unit = s .args .unit in
+    let this = r .row .result in
+    let high = here r in
     let test = sym (c .before .no-dearer .ensures) in
-    let a = l .before .before .args in
-    let next = summed-next (l .before .loop .inv) (c .if1 .sum) (widthAt (a .unit) (this l)) refl (l .loop-test .taken) in
+    let before = cheaperTo unit (segments s) i in
+    let adds = cheaper-next unit (segments s) i ∙ ap (λ (t : Segment). widthAt unit t + before) (sym (r .row .ensures)) in
+    let next = summed-next (l .before .loop .inv) (c .if1 .sum) (widthAt unit this) adds (l .loop-test .taken) in
     ⊎-elim
-    (λ w. let e = width-counts (a .unit) (this l) (leb-true _ _ (test ∙ w .0 .taken)) in next (omega arith) (omega arith))
-    (λ w. let e = dearer (a .unit) (this l) (leb-false _ _ (test ∙ w .0 .left)) in next (omega arith) (omega arith))
+    (λ w. let e = width-counts unit this (leb-true _ _ (test ∙ w .0 .taken)) in next (omega arith) (omega arith))
+    (λ w. let e = dearer unit this (leb-false _ _ (test ∙ w .0 .left)) in next (omega arith) (omega arith))
     (c .if1 .came)
 
 returns : tie.Need-returns Inv-loop μ-loop
@@ -74,8 +82,7 @@ cheaper-spec =
     Inv-loop
     μ-loop
     loop-holds
-    mul-s
-    element-copy-out-s
+    row-requires
     no-dearer-requires
     sub-sum
     add-sum

@@ -1,28 +1,34 @@
+use mathlib.Core.Path.{sym, _∙_}
 use borrow.Author.Needs.{needs}
-use Rattle.filling.specs.Records.{chosen}
+use Rattle.filling.specs.Records.{rows}
+use Rattle.filling.proofs.Rows.{starts-sum, ends-sum, starts-small}
 use Rattle.filling.proofs.Filling.{too-many, not-too-many}
 use Rattle.filling.proofs.fits.Statement.{statement}
 use Rattle.filling.proofs.fits.Tie as tie
 
-starts-requires : tie.Need-starts-requires
-starts-requires c κs = search needs
+sum-requires : tie.Need-sum-requires
+sum-requires c κs = (c .pre .few, starts-small (c .pre))
 
 returns : tie.Need-returns
-returns c =
+returns c units fixed =
     let low = c .before .before in
     let a = low .before .args in
-    too-many (a .demand .0) (chosen (a .c)) (low .starts .result) (low .starts .ensures) (c .if1 .taken)
+    let chosen = rows (a .starts .now) (a .ends .now) units fixed (a .n) in
+    let is-low = low .sum .ensures ∙ sym (starts-sum (a .starts .now) (a .ends .now) units fixed (a .n)) in
+    too-many (a .demand .0) chosen (low .sum .result) is-low (c .if1 .taken)
 
-ends-requires : tie.Need-ends-requires
-ends-requires c κs = search needs
+sum-requires-2 : tie.Need-sum-requires-2
+sum-requires-2 c κs = search needs
 
 returns-2 : tie.Need-returns-2
-returns-2 c =
+returns-2 c units fixed =
     let high = c .before in
     let low = high .before .before .before in
     let a = low .before .args in
-    let within = high .before .if1 .left in
-    not-too-many (a .demand .0) (chosen (a .c)) (low .starts .result) (low .starts .ensures) (high .ends .result) (high .ends .ensures) within
+    let chosen = rows (a .starts .now) (a .ends .now) units fixed (a .n) in
+    let is-low = low .sum .ensures ∙ sym (starts-sum (a .starts .now) (a .ends .now) units fixed (a .n)) in
+    let is-high = high .sum2 .ensures ∙ sym (ends-sum (a .starts .now) (a .ends .now) units fixed (a .n)) in
+    not-too-many (a .demand .0) chosen (low .sum .result) is-low (high .sum2 .result) is-high (high .before .if1 .left)
 
 pub fits-spec : {M : Type 1} → statement M
-fits-spec = tie.close (tie.spec starts-requires returns ends-requires returns-2)
+fits-spec = tie.close (tie.spec sum-requires returns sum-requires-2 returns-2)

@@ -1,26 +1,68 @@
-use mathlib.Core.Path.{_≡_, refl}
+use Prim.Native.Nat.{_+_}
+use mathlib.Core.Path.{refl}
 use borrow.Author.Needs.{needs}
-use lib.ListN.{length}
 use Rattle.lists.proofs.Slices.{length-held}
-use Rattle.search.proofs.Steps.{chosen-more, sound-more}
+use Rattle.filling.proofs.Prices.{fixed-kept}
+use Rattle.search.proofs.Columns.{Held, rows-put, sound-put, put}
 use Rattle.search.proofs.choose.Statement.{statement}
 use Rattle.search.proofs.choose.Tie as tie
 
-mul-s : tie.Need-mul-s
-mul-s c = search needs
+held : (s : tie.Start) → Held (s .args .c)
+held s = record {
+  starts = search (length-held, s .good .0);
+  ends = search (length-held, s .good .0);
+  units = search (length-held, s .good .0);
+  fixed = search (length-held, s .good .0);
+}
 
-element-set-from-s : tie.Need-element-set-from-s
-element-set-from-s c = search needs
+mul-next : tie.Need-mul-next
+mul-next c = search needs
+
+element-write-next : tie.Need-element-write-next
+element-write-next c = search needs
+
+mul-next-2 : tie.Need-mul-next-2
+mul-next-2 c = search needs
+
+element-write-next-2 : tie.Need-element-write-next-2
+element-write-next-2 c = search needs
+
+mul-next-3 : tie.Need-mul-next-3
+mul-next-3 c = search needs
+
+element-write-next-3 : tie.Need-element-write-next-3
+element-write-next-3 c = search needs
+
+mul-fixed : tie.Need-mul-fixed
+mul-fixed c = search needs
+
+element-set-from-fixed : tie.Need-element-set-from-fixed
+element-set-from-fixed c = search needs
 
 add-next : tie.Need-add-next
 add-next c = search needs
 
 returns : tie.Need-returns
 returns c =
-    let a = c .args in
-    let held : length (a .c .segments) ≡ 8 = search (length-held, c .good) in
-    let few = c .pre .1 .1 in
-    (refl, (chosen-more (a .c) (a .s) few held, sound-more (a .c) (a .s) few held (c .pre .0) (c .pre .1 .0)))
+    let s = c .before in
+    let a = s .args in
+    let at = a .c .count in
+    let sound = s .pre .1 .0 in
+    let few = s .pre .1 .1 in
+    let more = rows-put (a .c) at (a .s) _ (at + 1) (held s) few (fixed-kept (a .s) sound) in
+    (refl, (more, sound-put (put (a .c) at (a .s) _ (at + 1)) at (a .s) _ few more sound (s .pre .0 .each)))
 
 pub choose-spec : {M : Type 1} → statement M
-choose-spec = tie.close (tie.spec mul-s element-set-from-s add-next returns)
+choose-spec =
+    tie.close
+    (tie.spec
+    mul-next
+    element-write-next
+    mul-next-2
+    element-write-next-2
+    mul-next-3
+    element-write-next-3
+    mul-fixed
+    element-set-from-fixed
+    add-next
+    returns)

@@ -1,21 +1,32 @@
-use mathlib.Core.Path.{_∙_}
+use mathlib.Core.Path.{_≡_, _∙_}
 use borrow.Author.Needs.{needs}
+use mathlib.Core.List.{List}
 use Rattle.lists.proofs.Tests.{passed, failed}
-use Rattle.filling.specs.Records.{chosen, divisionIn, found}
+use Rattle.book.specs.declared.Segment.{Segment}
+use Rattle.filling.specs.Records.{rows, divisionIn, found}
+use Rattle.filling.proofs.Rows.{sound-ranges}
 use Rattle.search.proofs.Steps.{unfit, fit}
 use Rattle.search.proofs.leaf.Statement.{statement}
 use Rattle.search.proofs.leaf.Tie as tie
 
+abbrev chosen : tie.Start → List Segment
+chosen s = rows (s .args .starts .now) (s .args .ends .now) (s .args .units .now) (s .args .fixed .now) (s .args .n)
+
 fits-requires : tie.Need-fits-requires
-fits-requires c κs = search needs
+fits-requires c κs = sound-ranges (c .pre)
 
 returns : tie.Need-returns
 returns c =
-    let a = c .before .before .args in
-    unfit (a .demand .0) (chosen (a .c)) (found (a .c .count) (a .best)) (failed (c .before .fits2 .ensures) (c .if1 .taken))
+    let s = c .before .before in
+    let a = s .args in
+    let tested = c .before .fits2 .ensures (a .units .now) (a .fixed .now) in
+    unfit (a .demand .0) (chosen s) (found (a .n) (a .best)) (failed tested (c .if1 .taken))
 
 fill-requires : tie.Need-fill-requires
-fill-requires c κs = (c .before .before .pre, passed (c .before .fits2 .ensures) (c .if1 .left))
+fill-requires c κs =
+    let s = c .before .before in
+    let tested = c .before .fits2 .ensures (s .args .units .now) (s .args .fixed .now) in
+    (s .pre, passed tested (c .if1 .left))
 
 pick-requires : tie.Need-pick-requires
 pick-requires c κs = search needs
@@ -24,9 +35,11 @@ returns-2 : tie.Need-returns-2
 returns-2 c =
     let new = c .before .fill in
     let e = c .before .before in
-    let a = e .before .before .args in
-    let fitting = passed (e .before .fits2 .ensures) (e .if1 .left) in
-    c .pick .ensures ∙ fit (a .demand .0) (chosen (a .c)) (found (a .c .count) (a .best)) fitting (divisionIn (a .c .count) (new .result)) (new .ensures .1)
+    let s = e .before .before in
+    let a = s .args in
+    let tested = e .before .fits2 .ensures (a .units .now) (a .fixed .now) in
+    let fitting = passed tested (e .if1 .left) in
+    c .pick .ensures ∙ fit (a .demand .0) (chosen s) (found (a .n) (a .best)) fitting (divisionIn (a .n) (new .result)) (new .ensures .1)
 
 pub leaf-spec : {M : Type 1} → statement M
 leaf-spec = tie.close (tie.spec fits-requires returns fill-requires pick-requires returns-2)

@@ -4,7 +4,7 @@ use Rattle.search.proofs.no_choice.Statement.{statement}
 use Rattle.search.proofs.no_choice.Tie as tie
 
 returns : tie.Need-returns
-returns c = (refl, sound-nothing _)
+returns c = (refl, sound-nothing _ _ _ _)
 
 pub no-choice-spec : {M : Type 1} → statement M
 no-choice-spec = tie.close (tie.spec returns)

@@ -1,0 +1,155 @@
+use Prim.Native.Nat.{ℕ, suc, _+_, _-_, _≤_, _<_}
+use native.Mathlib.Omega.{arith}
+use mathlib.Core.List.{[], _∷_}
+use mathlib.Core.Path.{_≡_, sym, _∙_}
+use borrow.Author.Needs.{needs}
+use lib.ListN.{drop}
+use mir.Syntax.{w64}
+use mir.Val.{toZ, ofZ}
+use Rattle.lists.proofs.Slices.{length-held}
+use Rattle.book.specs.Entries.{bidEntries}
+use Rattle.supply.specs.Supply.{supplyOf}
+use Rattle.choices.proofs.Search.{each}
+use Rattle.choices.proofs.Sound.{SoundSegment}
+use Rattle.choices.proofs.Accepted.{sound-segment-at}
+use Rattle.filling.specs.declared.Choice.{Choice}
+use Rattle.filling.specs.Records.{chosen, found}
+use Rattle.filling.proofs.Prices.{fixed-kept}
+use Rattle.search.proofs.Columns.{rowsIn, Held, put, Kept, kept-none, kept-put, kept-rows, sound-put}
+use Rattle.search.proofs.Steps.{each-none, each-next, each-all, tried, one-left, none-left, few-segments}
+use Rattle.search.proofs.last_bidder.Statement.{statement}
+use Rattle.search.proofs.last_bidder.Tie as tie
+
+abbrev Inv-loop : tie.InvT-loop
+Inv-loop demand bid at n full₀ so-far₀ number₀ full so-far number =
+    let from = drop number (supplyOf (bidEntries bid)) in
+    (number ≤ bid .count + 1) × Kept at full₀ full × (found n so-far ≡ each (tried (demand .0) [] (rowsIn full₀ at)) from (found n so-far₀))
+
+abbrev μ-loop : tie.MeasureT-loop
+μ-loop demand bid at n full₀ so-far₀ number₀ full so-far number = number
+
+held : (s : tie.Start Inv-loop μ-loop) → Held (s .args .c)
+held s = record {
+  starts = search (length-held, s .good .1 .1 .0);
+  ends = search (length-held, s .good .1 .1 .0);
+  units = search (length-held, s .good .1 .1 .0);
+  fixed = search (length-held, s .good .1 .1 .0);
+}
+
+-- In a turn: the segment that is tried, and the choice with it.
+
+abbrev with : tie.After-segment-of Inv-loop μ-loop → Choice
+with c =
+    let i = c .before .before .loop in
+    let t = c .segment-of .result in
+    put (i .full) (c .before .before .before .before .args .c .count) t (toZ w64 (ofZ w64 (t .fixed .0))) (i .full .count)
+
+sound : (c : tie.After-segment-of Inv-loop μ-loop) → SoundSegment (c .segment-of .result)
+sound c =
+    let s = c .before .before .before .before in
+    let tried-next = c .segment-of .ensures in
+    rw (tried-next .1) (sound-segment-at (bidEntries (s .args .bid)) (s .pre .0) _ (tried-next .0))
+
+more : (c : tie.After-segment-of Inv-loop μ-loop)
+    → let s = c .before .before .before .before .args in
+    rowsIn (with c) (s .c .count + 1) ≡ c .segment-of .result ∷ chosen (s .c)
+more c =
+    let s = c .before .before .before .before in
+    let t = c .segment-of .result in
+    kept-rows (c .before .before .loop .inv .1) t _ (c .before .before .loop .full .count) (s .pre .1 .1) (fixed-kept t (sound c))
+
+add-n : tie.Need-add-n Inv-loop μ-loop
+add-n c = search needs
+
+add-number : tie.Need-add-number Inv-loop μ-loop
+add-number c = search needs
+
+loop-holds : tie.Need-loop-holds Inv-loop μ-loop
+loop-holds c =
+    let s = c .before in
+    let b = s .args .bid in
+    (omega arith, kept-none _ _ (held s), each-none _ (supplyOf (bidEntries b)) _ (b .count + 1) (few-segments b))
+
+sub-number : tie.Need-sub-number Inv-loop μ-loop
+sub-number c = search needs
+
+segment-of-requires : tie.Need-segment-of-requires Inv-loop μ-loop
+segment-of-requires c κs = (c .before .before .before .pre .0 .count-high, omega (arith, c .before .loop .inv .0))
+
+mul-full : tie.Need-mul-full Inv-loop μ-loop
+mul-full c = search needs
+
+element-write-full : tie.Need-element-write-full Inv-loop μ-loop
+element-write-full c = search needs
+
+mul-full-2 : tie.Need-mul-full-2 Inv-loop μ-loop
+mul-full-2 c = search needs
+
+element-write-full-2 : tie.Need-element-write-full-2 Inv-loop μ-loop
+element-write-full-2 c = search needs
+
+mul-full-3 : tie.Need-mul-full-3 Inv-loop μ-loop
+mul-full-3 c = search needs
+
+element-write-full-3 : tie.Need-element-write-full-3 Inv-loop μ-loop
+element-write-full-3 c = search needs
+
+mul-fixed : tie.Need-mul-fixed Inv-loop μ-loop
+mul-fixed c = search needs
+
+element-set-from-fixed : tie.Need-element-set-from-fixed Inv-loop μ-loop
+element-set-from-fixed c = search needs
+
+leaf-requires : tie.Need-leaf-requires Inv-loop μ-loop
+leaf-requires c κs =
+    let t = c .before .before .before .before .before .before in
+    let s = t .before .before .before .before in
+    sound-put (with t) _ (t .segment-of .result) _ (s .pre .1 .1) (more t) (sound t) (s .pre .1 .0 .each)
+
+loop-less : tie.Need-loop-less Inv-loop μ-loop
+loop-less c = search needs
+
+loop-again : tie.Need-loop-again Inv-loop μ-loop
+loop-again c =
+    let t = c .before .before .before .before .before .before .before in
+    let l = t .before in
+    let i = l .before .loop in
+    let a = l .before .before .before .args in
+    let supply = supplyOf (bidEntries (a .bid)) in
+    let tried-next = t .segment-of .ensures in
+    let next : i .number ≡ suc (i .number - 1) = omega (arith, l .loop-test .taken) in
+    let leaf-next = rw (more t, tried-next .1) at (c .leaf .ensures) in
+    let found-next = leaf-next ∙ sym (none-left (a .demand .0) _ _) in
+    let again = each-next _ supply _ (i .number) (i .number - 1) next (tried-next .0) _ _ (i .inv .2) found-next in
+    (omega (arith, i .inv .0), kept-put (i .inv .1) (t .segment-of .result) _ _, again)
+
+returns : tie.Need-returns Inv-loop μ-loop
+returns c =
+    let i = c .before .loop in
+    let a = c .before .before .before .args in
+    each-all _ (supplyOf (bidEntries (a .bid))) _ (i .number) (omega (arith, c .loop-test .left)) _ (i .inv .2)
+    ∙ sym (one-left (a .demand .0) (chosen (a .c)) _ (supplyOf (bidEntries (a .bid))))
+
+pub last-bidder-spec : {M : Type 1} → statement M
+last-bidder-spec =
+    tie.close
+    (tie.spec
+    Inv-loop
+    μ-loop
+    add-n
+    add-number
+    loop-holds
+    sub-number
+    segment-of-requires
+    mul-full
+    element-write-full
+    mul-full-2
+    element-write-full-2
+    mul-full-3
+    element-write-full-3
+    mul-fixed
+    element-set-from-fixed
+    leaf-requires
+    loop-less
+    loop-again
+    returns)
