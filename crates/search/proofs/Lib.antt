@@ -1,3 +1,3 @@
-pub mod Compare
+pub mod Comparing
 pub mod Columns
 pub mod Steps

@@ -1,17 +1,21 @@
 // The search for the best division of a book, through every choice of a segment for each bidder.
 ghost use mathlib.Core.Path.{_≡_};
-ghost use mathlib.Core.Bool.{true, false};
+ghost use mathlib.Core.Bool.{false};
 ghost use mathlib.Core.List.{[], _∷_};
 ghost use Prim.Native.Nat.{_+_, _≤_, _<_};
-ghost use lib.ListN.{take, drop};
+ghost use lib.ListN.{drop};
 ghost use Rattle.book.specs.Entries.{bidEntries, bookEntries};
 ghost use Rattle.book.proofs.Accepted.{AcceptedBid};
 ghost use Rattle.supply.specs.Supply.{supplyOf, suppliesOf};
-ghost use Rattle.divisions.specs.Award.{givesMore, better, pick, awardOf};
+ghost use Rattle.divisions.specs.Award.{awardOf};
 ghost use Rattle.choices.proofs.Search.{leaf, search};
 ghost use Rattle.choices.proofs.Sound.{SoundSegment};
-ghost use Rattle.filling.specs.Records.{rows, SoundRows, chosen, Sound, blanksIn, divisionIn, found};
+ghost use Rattle.filling.specs.Records.{rows, SoundRows, chosen, Sound, found};
 ghost use Rattle.search.specs.Searchable.{Searchable};
+
+// Divisions compared. The module is private: what is pub in it serves this crate alone.
+mod compare;
+
 use book::Bid;
 use book::Book;
 use book::Segment;
@@ -19,60 +23,6 @@ use filling::Best;
 use filling::Choice;
 use money::Blanks;
 use money::Cents;
-
-// Whether a gives more than b to the first of n bidders at whom the two differ.
-fn gives_more(a: [Blanks; 8], b: [Blanks; 8], n: usize) -> bool
-    requires { ⌜ n ≤ 8 ⌝ }
-    ensures { λ r. ⌜ r ≡ givesMore (take n (blanksIn a)) (take n (blanksIn b)) ⌝ }
-{
-    let mut i: usize = 0;
-    while i < n {
-        let x = a[i];
-        let y = b[i];
-        if y.0 < x.0 {
-            return true;
-        }
-        if x.0 < y.0 {
-            return false;
-        }
-        i += 1;
-    }
-    false
-}
-
-// Whether a costs less than b; or it costs no more, and gives more to the first bidder at whom the
-// two differ.
-fn better(a: Best, b: Best, n: usize) -> bool
-    requires { ⌜ n ≤ 8 ⌝ }
-    ensures { λ r. ⌜ r ≡ better (divisionIn n a) (divisionIn n b) ⌝ }
-{
-    let cost = a.total;
-    let other = b.total;
-    if !money::at_most(cost, other) {
-        return false;
-    }
-    if !money::at_most(other, cost) {
-        return true;
-    }
-    let quantities = a.quantities;
-    let others = b.quantities;
-    gives_more(quantities, others, n)
-}
-
-// The better of the division kept so far, if there is one, and a new one.
-fn pick(kept: Best, new: Best, n: usize) -> Best
-    requires { ⌜ n ≤ 8 ⌝ }
-    requires { ⌜ new .found ≡ true ⌝ }
-    ensures { λ r. ⌜ found n r ≡ pick (found n kept) (divisionIn n new) ⌝ }
-{
-    if !kept.found {
-        return new;
-    }
-    if !better(new, kept, n) {
-        return kept;
-    }
-    new
-}
 
 // A complete choice: its division is compared with the best so far, if it has one.
 fn leaf<'a>(
@@ -91,7 +41,7 @@ fn leaf<'a>(
         return best;
     }
     let new = filling::fill(starts, ends, units, fixed, n, demand);
-    pick(best, new, n)
+    compare::pick(best, new, n)
 }
 
 // The choice with a segment for the next bidder.

@@ -2,9 +2,9 @@ use mathlib.Core.Path.{sym, _∙_}
 use borrow.Author.Needs.{needs}
 use Rattle.lists.proofs.Tests.{passed, failed}
 use Rattle.filling.specs.Records.{divisionIn}
-use Rattle.search.proofs.Compare.{dearer, cheaper, as-cheap}
-use Rattle.search.proofs.better.Statement.{statement}
-use Rattle.search.proofs.better.Tie as tie
+use Rattle.search.proofs.Comparing.{dearer, cheaper, as-cheap}
+use Rattle.search.proofs.compare.better.Statement.{statement}
+use Rattle.search.proofs.compare.better.Tie as tie
 
 at-most-requires : tie.Need-at-most-requires
 at-most-requires c κs = search needs
