@@ -14,7 +14,7 @@
  *
  * A thread with a stack of 64 KB can call each of them: tests/boundary/run checks it on a book of eight bids of six segments.
  * boccelarch_sheet and boccelarch_award try every choice of segments: most books take milliseconds, eight bids of six segments can take
- * two or three seconds.
+ * a second (bench/RESULTS.md).
  *
  * That the functions answer what docs/CLAIMS.md states is proved, for every text and every length.
  */
