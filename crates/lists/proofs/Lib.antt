@@ -5,5 +5,4 @@ pub mod All
 pub mod Joined
 pub mod Padded
 pub mod Members
-pub mod Latest
 pub mod Removed

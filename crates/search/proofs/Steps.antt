@@ -76,10 +76,6 @@ module _ (demand : ℕ) (c : List Segment) (o : Option Priced) where
 
 -- The bidders from `at` on.
 module _ (demand : ℕ) (supplies : List (List Segment)) (at : ℕ) (c : List Segment) (o : Option Priced) where
-  search-done : length supplies ≤ at → search demand (drop at supplies) c o ≡ leaf demand c o
-  unfolding search
-  search-done h = rw (drop-of-length-le supplies h)
-
   search-next : (ss d : List Segment) → at < length supplies → getD supplies at d ≡ ss
       → search demand (drop at supplies) c o ≡ each (tried demand (drop (at + 1) supplies) c) ss o
   unfolding search
@@ -97,9 +93,6 @@ module _ (bids : List Bid) (n : ℕ) (held : n ≤ length bids) where
   supply-at i h = List·getD-map supplyOf entries i (bidEntries noBid) ∙ ap supplyOf (entry-at bids n held i h)
 
   module _ (demand at : ℕ) (c : List Segment) (o : Option Priced) where
-    pub bidders-done : n ≤ at → search demand (drop at (suppliesOf entries)) c o ≡ leaf demand c o
-    bidders-done h = search-done demand (suppliesOf entries) at c o (omega (arith, length-supplies))
-
     pub bidders-next : at < n
         → search demand (drop at (suppliesOf entries)) c o
         ≡ each (tried demand (drop (at + 1) (suppliesOf entries)) c) (supplyOf (bidEntries (getD bids at noBid))) o
