@@ -23,7 +23,7 @@ fn refused(rule: Rule, place: u64) -> BookRead
     }
 }
 
-// Reads a book from any bytes. The whole text is parsed before any rule is looked at.
+// Reads a book from any bytes. The whole text is parsed before rules 3 to 8 are looked at.
 pub fn read(text: &[u8]) -> BookRead
     ensures { λ r. ⌜ r ≡ readOf (now (text .entry)) ⌝ }
 {

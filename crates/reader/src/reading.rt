@@ -1,5 +1,6 @@
-// The text that is being read, and the place where reading stands. The borrow checker covers no function over a struct that holds a
-// reference, so each one here is proved by hand: they are few, and each leaves its work to a function over the slice and the place.
+// The text that is being read, and the place where reading stands. A struct that holds a reference is outside the prover's borrow rules,
+// so each function here is proved by hand: they are few and have no branch, and those that parse leave it to a function over the slice
+// and the place.
 ghost use mathlib.Core.Path.{_≡_};
 ghost use Prim.Native.Nat.{_≤_};
 ghost use lib.ListN.{length};
@@ -9,7 +10,7 @@ use booklines::ParsedBook;
 use scanner::Cursor;
 use scanner::ParsedNumber;
 
-// The text itself, never a copy of it, and where the next line begins.
+// The text itself, never a copy of it, and where parsing stands in it.
 pub struct Reader<'a> {
     pub text: &'a [u8],
     pub next: Cursor,

@@ -1,5 +1,5 @@
 -- `reading::bids` meets its contract: a walk of its MIR, by hand. The struct is taken apart, and `booklines::bids` is called on the slice,
--- the place and the bids.
+-- the place and the demand.
 -- The struct is Copy: what it owns is had twice, one copy is kept whole for the exit, and the other, field by field, is what the callee
 -- asks, beside the lifetime's token, which comes back.
 -- Assumes nothing.
