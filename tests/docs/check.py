@@ -1,5 +1,7 @@
 # That the pages quote and cite what is there. Run from the repository's top (tests/docs/run does). Five kinds of check:
-#   quote  a fenced block whose first line names a file stands in that file, its lines one after the other
+#   quote  a fenced block whose first line names a file stands in that file, its lines one after the other; where a line of the block
+#          holds only `..`, lines of the file are left out: the pieces before and after it stand in the file in that order, apart.
+#          A piece from inside of a `module _ .. where` has that line quoted above it, since it holds what the piece is said of
 #   path   a file, folder or heading that a page cites exists
 #   name   a name cited together with a file is declared in it
 #   edit   CLAIMS.md cites every must-fail edit, and no edit that is not there
@@ -69,9 +71,44 @@ def paragraphs(prose):
 # ---- quotes
 
 
-def stands_in(lines, whole):
-    """The lines occur in the file's, contiguously and unaltered."""
-    return any(whole[i : i + len(lines)] == lines for i in range(len(whole) - len(lines) + 1))
+def pieces_of(lines):
+    """A quote's pieces, which lines with only `..` part, each with the quoted lines above it."""
+    ends = [i for i, line in enumerate(lines) if line == ".."] + [len(lines)]
+    starts = [0] + [end + 1 for end in ends[:-1]]
+    return [(lines[start:end], lines[:start]) for start, end in zip(starts, ends)]
+
+
+def place_of(piece, whole, least):
+    """The first place, from `least` on, where the piece occurs in the file's lines, contiguously and unaltered; none of an empty one."""
+    tries = range(least, len(whole) - len(piece) + 1) if piece else ()
+    return next((i for i in tries if whole[i : i + len(piece)] == piece), None)
+
+
+def indent(line):
+    return len(line) - len(line.lstrip())
+
+
+def modules_above(whole, place):
+    """The lines `module _ .. where` that the line at the place stands under."""
+    inner = indent(whole[place])
+    for line in reversed(whole[:place]):
+        if line.strip() and indent(line) < inner:
+            inner = indent(line)
+            if line.lstrip().startswith("module "):
+                yield line
+
+
+def check_quote(where, path, lines):
+    whole, least = read(path).split("\n"), 0
+    for piece, above in pieces_of(lines):
+        place = place_of(piece, whole, least)
+        check(place is not None, where, f"not in {path}, or not in this order: {(piece or ['an empty quote'])[0].strip()}")
+        if place is None:
+            return
+        for line in modules_above(whole, place):
+            check(line in above, where, f"not quoted above {piece[0].strip()}: {line.strip()}")
+        # One line or more is left out between two pieces.
+        least = place + len(piece) + 1
 
 
 def check_quotes(page):
@@ -83,8 +120,7 @@ def check_quotes(page):
             there = os.path.isfile(info)
             check(there, f"{page}:{number}", f"no file {info} to quote from")
             if there:
-                good = bool(lines) and stands_in(lines, read(info).split("\n"))
-                check(good, f"{page}:{number}", f"not in {info}: {(lines or ['an empty quote'])[0].strip()}")
+                check_quote(f"{page}:{number}", info, lines)
 
 
 # ---- paths
