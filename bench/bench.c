@@ -119,14 +119,23 @@ static bool run(size_t method, const struct text *text, const struct book *book,
     return true;
 }
 
+/* Runs each method once, as above. */
+static bool run_each(const struct text *text, const struct book *book, struct clearing *expected, double *fastest)
+{
+    for (size_t method = 0; method < METHOD_COUNT; method++) {
+        if (!run(method, text, book, expected, &fastest[method])) {
+            return false;
+        }
+    }
+    return true;
+}
+
 /* The methods take turns, so that what else the machine does slows all of them. */
 static bool run_all(const struct text *text, const struct book *book, int runs, struct clearing *expected, double *fastest)
 {
     for (int i = 0; i < runs; i++) {
-        for (size_t method = 0; method < METHOD_COUNT; method++) {
-            if (!run(method, text, book, expected, &fastest[method])) {
-                return false;
-            }
+        if (!run_each(text, book, expected, fastest)) {
+            return false;
         }
     }
     return true;

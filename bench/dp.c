@@ -25,6 +25,14 @@ static void append(struct window *w, uint64_t place, int64_t key)
     w->last++;
 }
 
+/* Drops the places from which `end` blanks do not reach q. */
+static void drop(struct window *w, uint64_t end, uint64_t q)
+{
+    while (w->first < w->last && w->places[w->first] + end < q) {
+        w->first++;
+    }
+}
+
 /* Lowers now[q] to the least price with this bidder on segment s, where the bidders after it sell at the prices `after`. With p sold after
  * it, the price is unit * q + fixed + (after[p] - unit * p), for q - end <= p <= q - start. */
 static void lower(const struct segment *s, uint64_t demand, const int64_t *after, int64_t *now, struct window *w)
@@ -36,12 +44,28 @@ static void lower(const struct segment *s, uint64_t demand, const int64_t *after
         if (after[p] < NEVER) {
             append(w, p, after[p] - (int64_t)(s->unit * p));
         }
-        while (w->first < w->last && w->places[w->first] + s->end < q) {
-            w->first++;
-        }
+        drop(w, s->end, q);
         if (w->first < w->last && price(s, q) + w->keys[w->first] < now[q]) {
             now[q] = price(s, q) + w->keys[w->first];
         }
+    }
+}
+
+/* The least prices without a bidder: only no blanks can be had. */
+static void without_bidders(int64_t *now, size_t width)
+{
+    now[0] = 0;
+    for (size_t q = 1; q < width; q++) {
+        now[q] = NEVER;
+    }
+}
+
+/* The least prices with this bidder, where those after it sell at the prices `after`. */
+static void with_bidder(const struct bid *bid, uint64_t demand, const int64_t *after, int64_t *now, struct window *w)
+{
+    memcpy(now, after, (demand + 1) * sizeof *now); /* segment 0 */
+    for (size_t j = 1; j <= bid->count; j++) {
+        lower(&bid->segments[j], demand, after, now, w);
     }
 }
 
@@ -49,36 +73,33 @@ static void lower(const struct segment *s, uint64_t demand, const int64_t *after
 static void tables_of(const struct book *book, int64_t *tables, struct window *w)
 {
     size_t width = book->demand + 1;
-    int64_t *none = tables + book->count * width;
 
-    none[0] = 0;
-    for (size_t q = 1; q < width; q++) {
-        none[q] = NEVER;
-    }
+    without_bidders(tables + book->count * width, width);
     for (size_t i = book->count; i-- > 0;) {
-        const int64_t *after = tables + (i + 1) * width;
-        int64_t *now = tables + i * width;
-
-        memcpy(now, after, width * sizeof *now); /* segment 0 */
-        for (size_t j = 1; j <= book->bids[i].count; j++) {
-            lower(&book->bids[i].segments[j], book->demand, after, now, w);
-        }
+        with_bidder(&book->bids[i], book->demand, tables + (i + 1) * width, tables + i * width, w);
     }
 }
 
-/* The most that a bid can sell of `left` at the least price, where those after it sell at the prices `after`. */
-static uint64_t most(const struct bid *bid, uint64_t left, int64_t least, const int64_t *after)
+/* The most of `left` that can be sold on a segment at the least price, where the bidders after it sell at the prices `after`; else 0. */
+static uint64_t most_on(const struct segment *s, uint64_t left, int64_t least, const int64_t *after)
 {
-    for (size_t j = bid->count; j > 0; j--) {
-        const struct segment *s = &bid->segments[j];
-
-        for (uint64_t x = s->end < left ? s->end : left; x >= s->start; x--) {
-            if (price(s, x) + after[left - x] == least) {
-                return x;
-            }
+    for (uint64_t x = s->end < left ? s->end : left; x >= s->start; x--) {
+        if (price(s, x) + after[left - x] == least) {
+            return x;
         }
     }
     return 0;
+}
+
+/* The same for a bid. */
+static uint64_t most(const struct bid *bid, uint64_t left, int64_t least, const int64_t *after)
+{
+    uint64_t x = 0;
+
+    for (size_t j = bid->count; j > 0 && x == 0; j--) {
+        x = most_on(&bid->segments[j], left, least, after);
+    }
+    return x;
 }
 
 /* The award of the book: by the rule for ties the first bidder gets most, then the second, and so on. */

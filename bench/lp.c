@@ -8,13 +8,21 @@
 #include <inttypes.h>
 #include <stdio.h>
 
+typedef void segment_line(size_t i, size_t j, const struct segment *s);
+
+/* Calls `line` for each segment of bid i. */
+static void each_of(size_t i, const struct bid *bid, segment_line *line)
+{
+    for (size_t j = 1; j <= bid->count; j++) {
+        line(i, j, &bid->segments[j]);
+    }
+}
+
 /* Calls `line` for each segment of the book. */
-static void each(const struct book *book, void (*line)(size_t i, size_t j, const struct segment *s))
+static void each(const struct book *book, segment_line *line)
 {
     for (size_t i = 0; i < book->count; i++) {
-        for (size_t j = 1; j <= book->bids[i].count; j++) {
-            line(i + 1, j, &book->bids[i].segments[j]);
-        }
+        each_of(i + 1, &book->bids[i], line);
     }
 }
 
@@ -36,6 +44,12 @@ static void bounds(size_t i, size_t j, const struct segment *s)
     printf(" end_%zu_%zu: x_%zu_%zu - %" PRIu64 " y_%zu_%zu <= 0\n", i, j, i, j, s->end, i, j);
 }
 
+static void chosen(size_t i, size_t j, const struct segment *s)
+{
+    (void)s;
+    printf(" + y_%zu_%zu", i, j);
+}
+
 static void binary(size_t i, size_t j, const struct segment *s)
 {
     (void)s;
@@ -47,9 +61,7 @@ static void one_each(const struct book *book)
 {
     for (size_t i = 0; i < book->count; i++) {
         printf(" one_%zu:", i + 1);
-        for (size_t j = 1; j <= book->bids[i].count; j++) {
-            printf(" + y_%zu_%zu", i + 1, j);
-        }
+        each_of(i + 1, &book->bids[i], chosen);
         printf(" <= 1\n");
     }
 }

@@ -17,27 +17,36 @@ cell() { # cell KIND BOOK METHOD: the time (KIND is `time`) or the ratio, as the
     fi
 }
 
-rows() { # rows KIND METHOD...: a row for each book, a cell for each method
-    local kind=$1 book method
+row() { # row KIND BOOK METHOD...: a cell for each method
+    local kind=$1 book=$2 method
+    shift 2
+    printf '| %s |' "$book"
+    for method in "$@"; do
+        printf ' %s |' "$(cell "$kind" "$book" "$method")"
+    done
+    printf '\n'
+}
+
+rows() { # rows KIND METHOD...: a row for each book
+    local kind=$1 book
     shift
     for book in "${books[@]}"; do
-        printf '| %s |' "$book"
-        for method in "$@"; do
-            printf ' %s |' "$(cell "$kind" "$book" "$method")"
-        done
-        printf '\n'
+        row "$kind" "$book" "$@"
     done
 }
 
+difference() { # difference BOOK SOLVER: a line where the solver's answer is not the product's
+    local answer=${answer_of[$1 $2]:-late}
+    if [ "$answer" != late ] && [ "$answer" != "${answer_of[$1 product]}" ]; then
+        echo "- $1: $2 answers $answer; the product's total, which is proved, is ${answer_of[$1 product]}."
+    fi
+}
+
 differences() { # a line for each answer of a solver that is not the product's
-    local book solver answer
+    local book
     for book in "${books[@]}"; do
-        for solver in glpsol cbc; do
-            answer=${answer_of[$book $solver]:-late}
-            if [ "$answer" != late ] && [ "$answer" != "${answer_of[$book product]}" ]; then
-                echo "- $book: $solver answers $answer; the product's total, which is proved, is ${answer_of[$book product]}."
-            fi
-        done
+        difference "$book" glpsol
+        difference "$book" cbc
     done
 }
 

@@ -238,16 +238,23 @@ static struct award refused_award(uint64_t number, uint64_t place)
 }
 
 /* Each number by itself, so that a failure names row and column. */
-static void expect_rows(const struct award *expected, const uint64_t *got)
+static void expect_row(unsigned i, const uint64_t *expected, const uint64_t *got)
 {
     char what[40];
-    unsigned i, column;
+    unsigned column;
+
+    for (column = 0; column < BOCCELARCH_COLUMNS; column++) {
+        snprintf(what, sizeof what, "row %u, column %u", i, column);
+        expect_number(what, expected[column], got[column]);
+    }
+}
+
+static void expect_rows(const struct award *expected, const uint64_t *got)
+{
+    unsigned i;
 
     for (i = 0; i < expected->count; i++)
-        for (column = 0; column < BOCCELARCH_COLUMNS; column++) {
-            snprintf(what, sizeof what, "row %u, column %u", i, column);
-            expect_number(what, expected->rows[i][column], got[i * BOCCELARCH_COLUMNS + column]);
-        }
+        expect_row(i, expected->rows[i], got + i * BOCCELARCH_COLUMNS);
 }
 
 static void check_award(const char *name, struct text text, size_t length, struct award expected)

@@ -47,18 +47,24 @@ static void append_segment(struct text *book, unsigned bid, unsigned segment)
     append(book, " (seg %u %u %u %u)", start, end, 430 - 3 * bid - 7 * segment, 300 * bid + 20000 * segment);
 }
 
+static void append_bid(struct text *book, unsigned bid)
+{
+    unsigned segment;
+
+    append(book, "(bid %u", 1 + bid);
+    for (segment = 0; segment < SEGMENTS; segment++)
+        append_segment(book, bid, segment);
+    append(book, ")\n");
+}
+
 static void make_book(struct text *book, uint64_t demand)
 {
-    unsigned bid, segment;
+    unsigned bid;
 
     book->length = 0;
     append(book, "(demand %" PRIu64 ")\n", demand);
-    for (bid = 0; bid < BIDS; bid++) {
-        append(book, "(bid %u", 1 + bid);
-        for (segment = 0; segment < SEGMENTS; segment++)
-            append_segment(book, bid, segment);
-        append(book, ")\n");
-    }
+    for (bid = 0; bid < BIDS; bid++)
+        append_bid(book, bid);
 }
 
 /* What the entries answer */

@@ -22,27 +22,41 @@ fn nobody(demand: i64) -> Vec<i64> {
     least
 }
 
+/// Brackets, each with its k, both rising: one that is not below a later one is left out, since it will not be the least again.
+#[derive(Default)]
+struct Window(VecDeque<(i64, usize)>);
+
+impl Window {
+    fn add(&mut self, bracket: i64, k: usize) {
+        while self.0.back().is_some_and(|last| last.0 >= bracket) {
+            self.0.pop_back();
+        }
+        self.0.push_back((bracket, k));
+    }
+
+    /// The least bracket once every k below `lowest` is dropped.
+    fn least_from(&mut self, lowest: usize) -> Option<i64> {
+        while self.0.front().is_some_and(|first| first.1 < lowest) {
+            self.0.pop_front();
+        }
+        self.0.front().map(|first| first.0)
+    }
+}
+
 /// Lowers `least` by what buying a quantity on this segment, and the rest from the bidders after it, costs.
 ///
 /// With k blanks from those after it, q cost unit × q + fixed + (rest[k] − unit × k): for each q the least of the brackets over
 /// k from q − end to q − start, a window that slides with q.
 fn lower(least: &mut [i64], rest: &[i64], segment: &Segment) {
     let (start, end) = (segment.start as usize, segment.end as usize);
-    let mut window: VecDeque<(i64, usize)> = VecDeque::new();
+    let mut window = Window::default();
     for (quantity, least) in least.iter_mut().enumerate().skip(start) {
         let entering = quantity - start;
         if rest[entering] != NO_WAY {
-            let bracket = rest[entering] - segment.unit * entering as i64;
-            while window.back().is_some_and(|last| last.0 >= bracket) {
-                window.pop_back();
-            }
-            window.push_back((bracket, entering));
+            window.add(rest[entering] - segment.unit * entering as i64, entering);
         }
-        while window.front().is_some_and(|first| first.1 + end < quantity) {
-            window.pop_front();
-        }
-        if let Some(first) = window.front() {
-            let price = segment.price(quantity as i64) + first.0;
+        if let Some(bracket) = window.least_from(quantity.saturating_sub(end)) {
+            let price = segment.price(quantity as i64) + bracket;
             *least = price.min(*least);
         }
     }

@@ -13,7 +13,7 @@ pub const GROUPS: [Group; 24] = [
     ("the paper's book, every demand", paper_book),
     ("small books", small_books),
     ("small books with ties", tied_books),
-    ("four to six segments in a bid", deep_books),
+    ("four to six segments in a bid", books_of_many_segments),
     ("books with gaps and larger numbers", usual_books),
     ("books with wide segments", wide_books),
     ("five to eight bids", many_bids),
@@ -29,7 +29,7 @@ pub const GROUPS: [Group; 24] = [
     ("every edit of one byte, relevant values", edits_relevant),
     ("several edits", edits_several),
     ("every beginning of a book", beginnings),
-    ("rubbish bytes", rubbish),
+    ("any bytes", any_bytes),
     ("words and signs in any order", tokens),
     ("texts beside 4,096 bytes", long_texts),
     ("outputs of every length", every_length),
@@ -62,23 +62,24 @@ fn planned(comparer: &mut Comparer, random: &mut Random, plan: &Plan, count: usi
     }
 }
 
+fn planned_tied(comparer: &mut Comparer, random: &mut Random, plan: &Plan, count: usize) {
+    for _ in 0..count {
+        let text = books::tied(random, plan).written();
+        usual(comparer, random, &text);
+    }
+}
+
 fn small_books(comparer: &mut Comparer, random: &mut Random) {
     planned(comparer, random, &books::SMALL, 60_000);
 }
 
 fn tied_books(comparer: &mut Comparer, random: &mut Random) {
-    for _ in 0..40_000 {
-        let text = books::tied(random, &books::SMALL).written();
-        usual(comparer, random, &text);
-    }
+    planned_tied(comparer, random, &books::SMALL, 40_000);
 }
 
-fn deep_books(comparer: &mut Comparer, random: &mut Random) {
-    planned(comparer, random, &books::DEEP, 5_000);
-    for _ in 0..2_000 {
-        let text = books::tied(random, &books::DEEP).written();
-        usual(comparer, random, &text);
-    }
+fn books_of_many_segments(comparer: &mut Comparer, random: &mut Random) {
+    planned(comparer, random, &books::MANY_SEGMENTS, 5_000);
+    planned_tied(comparer, random, &books::MANY_SEGMENTS, 2_000);
 }
 
 fn usual_books(comparer: &mut Comparer, random: &mut Random) {
@@ -90,11 +91,8 @@ fn wide_books(comparer: &mut Comparer, random: &mut Random) {
 }
 
 fn many_bids(comparer: &mut Comparer, random: &mut Random) {
-    planned(comparer, random, &books::MANY, 1_500);
-    for _ in 0..1_500 {
-        let text = books::tied(random, &books::MANY).written();
-        usual(comparer, random, &text);
-    }
+    planned(comparer, random, &books::MANY_BIDS, 1_500);
+    planned_tied(comparer, random, &books::MANY_BIDS, 1_500);
 }
 
 fn full_books(comparer: &mut Comparer, random: &mut Random) {
@@ -121,6 +119,10 @@ fn limits_large(comparer: &mut Comparer, random: &mut Random) {
         let text = limits::book(random, 3, &demands).written();
         usual(comparer, random, &text);
     }
+    longest_sheets(comparer, random);
+}
+
+fn longest_sheets(comparer: &mut Comparer, random: &mut Random) {
     for spare in [-1, 0, 1, 20_000] {
         usual(comparer, random, &limits::longest(spare).written());
     }
@@ -137,20 +139,21 @@ fn large_books(comparer: &mut Comparer, random: &mut Random) {
     planned(comparer, random, &books::LARGE, 300);
 }
 
-/// A quantity bought whole from one bidder; and its price, a number of as many digits as `fixed`, beside that of another bidder.
+/// A quantity bought whole from one bidder.
 fn sampled(comparer: &mut Comparer, random: &mut Random) {
     let highest = [1, 8, 15, 25, 50, 90, 150, 280, 500, 1_200, 3_200, 10_000, 35_000, 150_000, 500_000, 1_000_000];
     let powers = [10, 100, 1_000, 10_000, 100_000, 1_000_000];
-    for middle in highest.into_iter().chain(powers) {
-        for quantity in limits::beside(middle) {
-            usual(comparer, random, &limits::bought(quantity, 0).written());
-        }
+    for quantity in highest.into_iter().chain(powers).flat_map(limits::beside) {
+        usual(comparer, random, &limits::bought(quantity, 0).written());
     }
-    for digits in 0..=12 {
-        for fixed in limits::beside(10i64.pow(digits)) {
-            usual(comparer, random, &limits::bought(9, fixed).written());
-            usual(comparer, random, &limits::bought(9, -fixed).written());
-        }
+    priced(comparer, random);
+}
+
+/// Its price, a number of as many digits as `fixed`, beside that of another bidder.
+fn priced(comparer: &mut Comparer, random: &mut Random) {
+    for fixed in (0..=12).flat_map(|digits| limits::beside(10i64.pow(digits))) {
+        usual(comparer, random, &limits::bought(9, fixed).written());
+        usual(comparer, random, &limits::bought(9, -fixed).written());
     }
 }
 
@@ -200,20 +203,24 @@ fn edits_several(comparer: &mut Comparer, random: &mut Random) {
 }
 
 fn beginnings(comparer: &mut Comparer, random: &mut Random) {
-    for plan in [books::SMALL, books::USUAL, books::WIDE, books::MANY, books::FULL] {
+    for plan in [books::SMALL, books::USUAL, books::WIDE, books::MANY_BIDS, books::FULL] {
         let text = books::book(random, &plan).written();
-        for length in 0..text.len() {
-            usual(comparer, random, &text[..length]);
-        }
+        beginnings_of(comparer, random, &text);
     }
-    for length in 0..=paper_text(120).len() {
-        usual(comparer, random, &paper_text(120)[..length]);
+    beginnings_of(comparer, random, &paper_text(120));
+    usual(comparer, random, &paper_text(120));
+}
+
+/// Without the whole text.
+fn beginnings_of(comparer: &mut Comparer, random: &mut Random, text: &[u8]) {
+    for length in 0..text.len() {
+        usual(comparer, random, &text[..length]);
     }
 }
 
-fn rubbish(comparer: &mut Comparer, random: &mut Random) {
+fn any_bytes(comparer: &mut Comparer, random: &mut Random) {
     for _ in 0..10_000 {
-        let text = bytes::rubbish(random);
+        let text = bytes::any_bytes(random);
         usual(comparer, random, &text);
     }
 }
@@ -225,21 +232,29 @@ fn tokens(comparer: &mut Comparer, random: &mut Random) {
     }
 }
 
-/// Whole, with a wrong last byte, with one wrong byte elsewhere, cut, and rubbish, of lengths beside 4,096.
 fn long_texts(comparer: &mut Comparer, random: &mut Random) {
     for length in [4_000, 4_094, 4_095, 4_096, 4_097, 4_098, 5_000, 8_192, 100_000] {
-        for text in bytes::of_length(length) {
-            usual(comparer, random, &text);
-            usual(comparer, random, &bytes::replaced(&text, length - 1, b' '));
-            usual(comparer, random, &text[..length - 1]);
-            for _ in 0..40 {
-                let place = random.below(length);
-                let byte = random.pick(bytes::RELEVANT);
-                usual(comparer, random, &bytes::replaced(&text, place, byte));
-            }
-        }
-        usual(comparer, random, &vec![b'7'; length]);
-        usual(comparer, random, &[b"(demand 5)\n".as_slice(), &vec![0; length - 11]].concat());
+        texts_of_length(comparer, random, length);
+    }
+}
+
+/// Whole, with a wrong last byte, cut, with one byte replaced; and two that are not of the shape from an early byte on.
+fn texts_of_length(comparer: &mut Comparer, random: &mut Random, length: usize) {
+    for text in bytes::of_length(length) {
+        usual(comparer, random, &text);
+        usual(comparer, random, &bytes::replaced(&text, length - 1, b' '));
+        usual(comparer, random, &text[..length - 1]);
+        one_byte_replaced(comparer, random, &text);
+    }
+    usual(comparer, random, &vec![b'7'; length]);
+    usual(comparer, random, &[b"(demand 5)\n".as_slice(), &vec![0; length - 11]].concat());
+}
+
+fn one_byte_replaced(comparer: &mut Comparer, random: &mut Random, text: &[u8]) {
+    for _ in 0..40 {
+        let place = random.below(text.len());
+        let byte = random.pick(bytes::RELEVANT);
+        usual(comparer, random, &bytes::replaced(text, place, byte));
     }
 }
 
@@ -251,10 +266,18 @@ fn every_length(comparer: &mut Comparer, random: &mut Random) {
     for demand in [19, 60, 61, 120, 181, 300, 301, 0] {
         lengths_of(comparer, &paper_text(demand));
     }
+    lengths_of_books(comparer, random);
+    lengths_at_limits(comparer, random);
+}
+
+fn lengths_of_books(comparer: &mut Comparer, random: &mut Random) {
     for _ in 0..150 {
         lengths_of(comparer, &books::book(random, &books::SMALL).written());
         lengths_of(comparer, &books::book(random, &books::USUAL).written());
     }
+}
+
+fn lengths_at_limits(comparer: &mut Comparer, random: &mut Random) {
     for _ in 0..20 {
         let book = limits::book(random, 4, &[1, 2]);
         lengths_of(comparer, &book.written());
@@ -262,13 +285,17 @@ fn every_length(comparer: &mut Comparer, random: &mut Random) {
 }
 
 fn splits(comparer: &mut Comparer, random: &mut Random) {
-    for plan in [books::SMALL, books::USUAL, books::MANY] {
-        for _ in 0..2_500 {
-            let text = books::book(random, &plan).written();
-            comparer.text(&text, |judged| calls::many_splits(random, judged));
-        }
+    for plan in [books::SMALL, books::USUAL, books::MANY_BIDS] {
+        splits_of(comparer, random, &plan);
     }
     comparer.text(&paper_text(120), paper_splits);
+}
+
+fn splits_of(comparer: &mut Comparer, random: &mut Random, plan: &Plan) {
+    for _ in 0..2_500 {
+        let text = books::book(random, plan).written();
+        comparer.text(&text, |judged| calls::many_splits(random, judged));
+    }
 }
 
 fn paper_splits(_: &Judged) -> Vec<Call> {

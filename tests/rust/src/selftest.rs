@@ -120,31 +120,36 @@ fn places(checks: &mut Checks, shape: &Shape) {
     }
 }
 
+/// A price and the quantities that have it.
+type Division = (i64, Vec<i64>);
+
 /// Every division of the demand, in any order.
-fn divisions(bids: &[Bid], demand: i64) -> Vec<(i64, Vec<i64>)> {
+fn divisions(bids: &[Bid], demand: i64) -> Vec<Division> {
     let Some((last, before)) = bids.split_last() else {
         return if demand == 0 { vec![(0, Vec::new())] } else { Vec::new() };
     };
-    let mut all = Vec::new();
-    for quantity in 0..=demand {
-        let Some(price) = last.price(quantity) else { continue };
-        for (others, mut quantities) in divisions(before, demand - quantity) {
-            quantities.push(quantity);
-            all.push((price + others, quantities));
-        }
-    }
-    all
+    (0..=demand).flat_map(|quantity| divisions_with(last, quantity, before, demand)).collect()
+}
+
+/// Those in which the last bidder sells this quantity.
+fn divisions_with(last: &Bid, quantity: i64, before: &[Bid], demand: i64) -> Vec<Division> {
+    let Some(price) = last.price(quantity) else { return Vec::new() };
+    let with_last = |(others, mut quantities): Division| {
+        quantities.push(quantity);
+        (price + others, quantities)
+    };
+    divisions(before, demand - quantity).into_iter().map(with_last).collect()
 }
 
 /// Whether `other` costs more than `best`, or the same and gives less to the first bidder at whom they differ.
-fn gives_way(other: &(i64, Vec<i64>), best: &(i64, Vec<i64>)) -> bool {
+fn worse(other: &Division, best: &Division) -> bool {
     other.0 > best.0 || (other.0 == best.0 && other.1 < best.1)
 }
 
-fn listed_well(book: &Book, all: &[(i64, Vec<i64>)]) -> bool {
+fn listed_well(book: &Book, all: &[Division]) -> bool {
     let Some(award) = clearing::award(book) else { return all.is_empty() };
     let best = (award.total, award.quantities);
-    let first = all.contains(&best) && all.iter().all(|d| *d == best || gives_way(d, &best));
+    let first = all.contains(&best) && all.iter().all(|d| *d == best || worse(d, &best));
     let without = |absent: usize| {
         let mut left = book.bids.clone();
         left.remove(absent);
@@ -154,7 +159,7 @@ fn listed_well(book: &Book, all: &[(i64, Vec<i64>)]) -> bool {
 }
 
 /// Whether several divisions cost the least.
-fn tied(all: &[(i64, Vec<i64>)]) -> bool {
+fn tied(all: &[Division]) -> bool {
     let least = all.iter().map(|division| division.0).min();
     all.iter().filter(|division| Some(division.0) == least).count() > 1
 }
@@ -193,21 +198,28 @@ fn alterations(checks: &mut Checks) {
     let mut comparer = Comparer::silent();
     let accepted = format!("(demand 120)\n{BIDS}");
     for text in [accepted.as_str(), "(demand 0)\n(bid 3 (seg 1 60 400 0))\n", "(demand", "(demand 301)\n(bid 3 (seg 1 9 1 0))\n"] {
-        let judged = Judged::new(&comparer.shape, text.as_bytes());
-        let split = Call::Split(vec![60, 60, 0]);
-        for call in [Call::Sheet(600), Call::Sheet(9), Call::Write(300), Call::Room, split, Call::Award(56)] {
-            let expected = judged.answer(&call);
-            for alter in ALTERATIONS {
-                let mut altered = expected.clone();
-                alter(&mut altered);
-                let before = comparer.counts.different;
-                comparer.call(text.as_bytes(), &call, &altered);
-                let counted = comparer.counts.different - before;
-                checks.check("an altered answer", counted == u64::from(altered != expected));
-            }
-        }
+        alter_text(checks, &mut comparer, text);
     }
     checks.check("altered answers were compared", comparer.counts.different > 100);
+}
+
+fn alter_text(checks: &mut Checks, comparer: &mut Comparer, text: &str) {
+    let judged = judged(&comparer.shape, text);
+    let split = Call::Split(vec![60, 60, 0]);
+    for call in [Call::Sheet(600), Call::Sheet(9), Call::Write(300), Call::Room, split, Call::Award(56)] {
+        alter_answer(checks, comparer, text, &call, &judged.answer(&call));
+    }
+}
+
+fn alter_answer(checks: &mut Checks, comparer: &mut Comparer, text: &str, call: &Call, expected: &Answer) {
+    for alter in ALTERATIONS {
+        let mut altered = expected.clone();
+        alter(&mut altered);
+        let before = comparer.counts.different;
+        comparer.call(text.as_bytes(), call, &altered);
+        let counted = comparer.counts.different - before;
+        checks.check("an altered answer", counted == u64::from(altered != *expected));
+    }
 }
 
 /// Whether every check holds; says how many there were.

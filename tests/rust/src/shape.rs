@@ -1,7 +1,7 @@
 //! The shape of a bid book as a finite automaton over bytes.
 //!
-//! The grammar is laid out as a net of states, states that cannot reach the end are dropped, and the sets of live states are made into a
-//! table. A beginning of a text is possible exactly when its set of live states is not empty.
+//! The grammar is laid out as states, those from which the end cannot be reached are dropped, and the sets of the others are made into a
+//! table. A beginning of a text is possible exactly when its set of states is not empty.
 
 use std::collections::BTreeMap;
 
@@ -49,20 +49,20 @@ fn book() -> Part {
 
 /// The states: those that a byte of a range leads to, and those that are reached without a byte.
 #[derive(Default)]
-struct Net {
+struct States {
     steps: Vec<Vec<(u8, u8, usize)>>,
     free: Vec<Vec<usize>>,
 }
 
-impl Net {
-    fn state(&mut self) -> usize {
+impl States {
+    fn add(&mut self) -> usize {
         self.steps.push(Vec::new());
         self.free.push(Vec::new());
         self.steps.len() - 1
     }
 
     fn step(&mut self, from: usize, low: u8, high: u8) -> usize {
-        let to = self.state();
+        let to = self.add();
         self.steps[from].push((low, high, to));
         to
     }
@@ -80,7 +80,7 @@ impl Net {
     }
 
     fn lay_either(&mut self, parts: &[Part], from: usize) -> usize {
-        let end = self.state();
+        let end = self.add();
         for part in parts {
             let last = self.lay(part, from);
             self.free[last].push(end);
@@ -89,7 +89,7 @@ impl Net {
     }
 
     fn lay_repeated(&mut self, part: &Part, from: usize) -> usize {
-        let start = self.state();
+        let start = self.add();
         self.free[from].push(start);
         let end = self.lay(part, start);
         self.free[end].push(start);
@@ -97,7 +97,7 @@ impl Net {
     }
 
     fn lay_at_most(&mut self, count: usize, part: &Part, from: usize) -> usize {
-        let end = self.state();
+        let end = self.add();
         let mut at = from;
         for _ in 0..count {
             self.free[at].push(end);
@@ -108,45 +108,71 @@ impl Net {
     }
 
     /// For each state whether `end` can be reached from it.
-    fn hopeful(&self, end: usize) -> Vec<bool> {
-        let mut hope = vec![false; self.steps.len()];
-        hope[end] = true;
+    fn reaches_end(&self, end: usize) -> Vec<bool> {
+        let all = 0..self.steps.len();
+        let mut reaches: Vec<bool> = all.clone().map(|state| state == end).collect();
         loop {
-            let before = hope.clone();
-            for (state, hope) in hope.iter_mut().enumerate() {
-                let by_byte = self.steps[state].iter().any(|s| before[s.2]);
-                let by_none = self.free[state].iter().any(|&s| before[s]);
-                *hope |= by_byte || by_none;
+            let further = all.clone().map(|state| self.leads_to(state, &reaches)).collect();
+            if reaches == further {
+                return reaches;
             }
-            if hope == before {
-                return hope;
-            }
+            reaches = further;
         }
     }
 
-    /// The hopeful states reached from `states` without a byte, in rising order.
-    fn closed(&self, states: Vec<usize>, hope: &[bool]) -> Vec<usize> {
-        let mut live = vec![false; self.steps.len()];
-        let mut waiting = states;
+    /// Whether a state is among those, or one of those comes next after it.
+    fn leads_to(&self, state: usize, those: &[bool]) -> bool {
+        let by_byte = self.steps[state].iter().any(|s| those[s.2]);
+        let by_none = self.free[state].iter().any(|&s| those[s]);
+        those[state] || by_byte || by_none
+    }
+
+    /// The states reached from `from` without a byte, `from` among them, in rising order, less those that do not reach the end.
+    fn closed(&self, from: Vec<usize>, reaches_end: &[bool]) -> Vec<usize> {
+        let mut reached = vec![false; self.steps.len()];
+        let mut waiting = from;
         while let Some(state) = waiting.pop() {
-            if hope[state] && !live[state] {
-                live[state] = true;
+            if reaches_end[state] && !reached[state] {
+                reached[state] = true;
                 waiting.extend(&self.free[state]);
             }
         }
-        (0..live.len()).filter(|&s| live[s]).collect()
+        (0..reached.len()).filter(|&s| reached[s]).collect()
     }
 
-    fn after(&self, states: &[usize], byte: u8, hope: &[bool]) -> Vec<usize> {
-        let steps = states.iter().flat_map(|&s| &self.steps[s]);
+    fn after(&self, set: &[usize], byte: u8, reaches_end: &[bool]) -> Vec<usize> {
+        let steps = set.iter().flat_map(|&s| &self.steps[s]);
         let taken = steps.filter(|s| s.0 <= byte && byte <= s.1);
-        self.closed(taken.map(|s| s.2).collect(), hope)
+        self.closed(taken.map(|s| s.2).collect(), reaches_end)
     }
 }
 
-const DEAD: usize = usize::MAX;
+/// Stands for the empty set.
+const NONE_LEFT: usize = usize::MAX;
 
-/// The table: for each set of live states the set after each byte, and whether a text may end there.
+/// The sets of states found so far; the number of a set is its index in the list.
+#[derive(Default)]
+struct Sets {
+    list: Vec<Vec<usize>>,
+    numbers: BTreeMap<Vec<usize>, usize>,
+}
+
+impl Sets {
+    /// The number of a set, which is added to the list where it is new.
+    fn number(&mut self, set: Vec<usize>) -> usize {
+        if set.is_empty() {
+            return NONE_LEFT;
+        }
+        let fresh = self.list.len();
+        let number = *self.numbers.entry(set.clone()).or_insert(fresh);
+        if number == fresh {
+            self.list.push(set);
+        }
+        number
+    }
+}
+
+/// The table: for each set of states the set after each byte, and whether a text may end there.
 pub struct Shape {
     next: Vec<[usize; 256]>,
     whole: Vec<bool>,
@@ -154,29 +180,17 @@ pub struct Shape {
 
 impl Shape {
     pub fn of_book() -> Self {
-        let mut net = Net::default();
-        let start = net.state();
-        let end = net.lay(&book(), start);
-        let hope = net.hopeful(end);
-        let first = net.closed(vec![start], &hope);
-        let mut known = BTreeMap::from([(first.clone(), 0)]);
-        let mut sets = vec![first];
+        let mut states = States::default();
+        let start = states.add();
+        let end = states.lay(&book(), start);
+        let reaches_end = states.reaches_end(end);
+        let mut sets = Sets::default();
+        sets.number(states.closed(vec![start], &reaches_end));
         let mut shape = Shape { next: Vec::new(), whole: Vec::new() };
-        while shape.next.len() < sets.len() {
-            let set = sets[shape.next.len()].clone();
-            let mut row = [DEAD; 256];
-            for byte in 0..=255u8 {
-                let then = net.after(&set, byte, &hope);
-                if !then.is_empty() {
-                    let fresh = sets.len();
-                    let index = *known.entry(then.clone()).or_insert(fresh);
-                    if index == fresh {
-                        sets.push(then);
-                    }
-                    row[byte as usize] = index;
-                }
-            }
-            shape.next.push(row);
+        while shape.next.len() < sets.list.len() {
+            let set = sets.list[shape.next.len()].clone();
+            let after = |byte| sets.number(states.after(&set, byte as u8, &reaches_end));
+            shape.next.push(std::array::from_fn(after));
             shape.whole.push(set.contains(&end));
         }
         shape
@@ -187,7 +201,7 @@ impl Shape {
         let mut state = 0;
         for (place, &byte) in text.iter().enumerate() {
             state = self.next[state][byte as usize];
-            if state == DEAD {
+            if state == NONE_LEFT {
                 return Some(place);
             }
         }

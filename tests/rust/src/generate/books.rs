@@ -20,8 +20,8 @@ pub struct Plan {
 pub const SMALL: Plan = Plan { bids: (1, 4), segments: (1, 3), gap: 3, width: 6, unit: 4, fixed: 12 };
 pub const USUAL: Plan = Plan { bids: (1, 4), segments: (1, 4), gap: 40, width: 120, unit: 900, fixed: 40_000 };
 pub const WIDE: Plan = Plan { bids: (1, 4), segments: (1, 3), gap: 900, width: 3_000, unit: MOST, fixed: 1_000_000_000 };
-pub const MANY: Plan = Plan { bids: (5, 8), segments: (1, 2), gap: 4, width: 9, unit: 7, fixed: 30 };
-pub const DEEP: Plan = Plan { bids: (1, 3), segments: (4, 6), gap: 3, width: 8, unit: 9, fixed: 40 };
+pub const MANY_BIDS: Plan = Plan { bids: (5, 8), segments: (1, 2), gap: 4, width: 9, unit: 7, fixed: 30 };
+pub const MANY_SEGMENTS: Plan = Plan { bids: (1, 3), segments: (4, 6), gap: 3, width: 8, unit: 9, fixed: 40 };
 pub const FULL: Plan = Plan { bids: (8, 8), segments: (6, 6), gap: 20, width: 60, unit: 900, fixed: 40_000 };
 pub const FULL_LARGE: Plan = Plan { gap: 9_000, width: 90_000, unit: MOST, fixed: MOST_FIXED, ..FULL };
 pub const LARGE: Plan = Plan { bids: (1, 4), segments: (1, 3), gap: 90_000, width: 300_000, unit: MOST, fixed: MOST_FIXED };

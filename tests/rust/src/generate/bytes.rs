@@ -1,4 +1,4 @@
-//! Texts made of bytes: edits of books, beginnings, rubbish, and texts beside the longest length.
+//! Texts made of bytes: edits of books, beginnings, any bytes, and texts beside the longest length.
 
 use crate::random::Random;
 
@@ -44,10 +44,11 @@ pub fn edited(random: &mut Random, text: &[u8]) -> Vec<u8> {
     text
 }
 
-pub fn rubbish(random: &mut Random) -> Vec<u8> {
+/// Fewer than 60 bytes, of all values or of the relevant ones.
+pub fn any_bytes(random: &mut Random) -> Vec<u8> {
     let length = random.below(60);
-    let any = random.chance(50);
-    let byte = |random: &mut Random| if any { random.next() as u8 } else { random.pick(RELEVANT) };
+    let all = random.chance(50);
+    let byte = |random: &mut Random| if all { random.next() as u8 } else { random.pick(RELEVANT) };
     (0..length).map(|_| byte(random)).collect()
 }
 

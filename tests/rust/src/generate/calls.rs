@@ -45,7 +45,7 @@ pub fn usual(random: &mut Random, judged: &Judged) -> Vec<Call> {
     calls
 }
 
-/// Each entry once: for books that take the product seconds.
+/// Each entry once: for books with many choices.
 pub fn once(random: &mut Random, judged: &Judged) -> Vec<Call> {
     let Ok(book) = &judged.reading else { return on_refused(random) };
     let split = splits::of_kind(random, judged, book, 0);
