@@ -100,8 +100,8 @@ fn last_bidder(demand: Blanks, bid: Bid, c: Choice, best: Best) -> Best
 }
 
 // A segment is chosen for bidder `at`, each in turn from its last to segment 0, and the search calls
-// itself for the bidders after it, of whom there is at least one; where there is only one, it needs no
-// book, which would be copied. It returns the best division so far.
+// itself for the bidders after it, of whom there is at least one; where only one is left, `last_bidder`
+// is called, which is not passed the book: it would be copied. It returns the best division so far.
 fn search(book: Book, at: usize, c: Choice, best: Best) -> Best
     requires { ⌜ Searchable (bookEntries book) ⌝ }
     requires { ⌜ Sound c ⌝ }
