@@ -1,6 +1,5 @@
 -- The same book gets the same answers, and entries past the counts are ignored. Assumes nothing.
 use Prim.Native.Nat.{ℕ, _≤_}
-use mathlib.Core.List.{List, map}
 use mathlib.Core.Path.{_≡_, sym, ap, _∙_}
 use lib.ListN.{set, take, getD}
 use lib.Seq.{take-set-le, map-set-same}
@@ -8,7 +7,7 @@ use Rattle.lists.proofs.Slices.{map-take}
 use Rattle.book.specs.declared.Segment.{Segment}
 use Rattle.book.specs.declared.Bid.{Bid}
 use Rattle.book.specs.declared.Book.{Book}
-use Rattle.book.specs.Entries.{BidEntries, bidEntries, bookEntries, SameBook}
+use Rattle.book.specs.Entries.{bidEntries, bookEntries, SameBook}
 use Rattle.book.specs.Rules.{bookVerdict}
 use Rattle.book.specs.Room.{roomOf}
 use Rattle.book.proofs.Records.{noBid}
@@ -23,7 +22,7 @@ same-room a b e = ap roomOf e
 pub past-bids : (b : Book) (i : ℕ) (bid : Bid) → b .count ≤ i
     → SameBook (record { demand = b .demand; count = b .count; bids = set (b .bids) i bid }) b
 past-bids b i bid h =
-    ap (λ (bs : List Bid). record { demand = b .demand .0; count = b .count; bids = map bidEntries bs }) (take-set-le (b .count) (b .bids) i bid h)
+    rw (take-set-le (b .count) (b .bids) i bid h)
 
 -- a segment of a bid stored past the bid's count
 abbrev pub withSegment : Bid → ℕ → Segment → Bid
@@ -31,7 +30,7 @@ withSegment b j s = record { bidder = b .bidder; count = b .count; segments = se
 
 past-segment : (b : Bid) (j : ℕ) (s : Segment) → b .count ≤ j → bidEntries (withSegment b j s) ≡ bidEntries b
 past-segment b j s h =
-    ap (λ (ss : List Segment). record { bidder = b .bidder; count = b .count; segments = ss }) (take-set-le (b .count) (b .segments) j s h)
+    rw (take-set-le (b .count) (b .segments) j s h)
 
 pub past-segments : (b : Book) (i j : ℕ) (s : Segment) → getD (b .bids) i noBid .count ≤ j
     → SameBook (record { demand = b .demand; count = b .count; bids = set (b .bids) i (withSegment (getD (b .bids) i noBid) j s) }) b
@@ -40,4 +39,4 @@ past-segments b i j s h =
     let stored = set (b .bids) i (withSegment bid j s) in
     let same = map-set-same bidEntries (b .bids) i (withSegment bid j s) noBid (past-segment bid j s h) in
     let within = map-take bidEntries (b .count) stored ∙ ap (take (b .count)) same ∙ sym (map-take bidEntries (b .count) (b .bids)) in
-    ap (λ (bs : List BidEntries). record { demand = b .demand .0; count = b .count; bids = bs }) within
+    rw within

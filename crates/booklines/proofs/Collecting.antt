@@ -1,8 +1,8 @@
--- A loop that parses items one after the other and keeps them in a record. Assumes nothing.
+-- A loop that parses items one after the other and adds them to a record. Assumes nothing.
 use Prim.Native.Nat.{ℕ, _+_, _-_, _≤_, _<_}
 use native.Mathlib.Omega.{arith}
 use mathlib.Core.Bool.{Bool, true, false, not, cond, _&&_}
-use mathlib.Core.List.{List, [], _∷_, _++_, append-assoc, append-nil}
+use mathlib.Core.List.{List, [], _∷_, _++_, foldl, foldl-append}
 use mathlib.Core.Path.{_≡_, refl, sym, ap, _∙_}
 use lib.ListN.{length, drop}
 use Rattle.forms.proofs.Form.{Form, startsWith}
@@ -11,12 +11,12 @@ use Rattle.forms.proofs.Some.{one-or-more}
 use Rattle.forms.proofs.Place.{Reads, reads-within, reads-found}
 use Rattle.forms.proofs.Repeat.{Run, run-start, run-next, run-done, first-then, item-on, item-moves, moves}
 
-module _ {A R : Type 0} (x : ℕ) (p : Form A) (heads : FirstByte x p) (again : p .Follow x) (keep : List A → R) (count : R → ℕ) (t : List ℕ) where
+module _ {A R : Type 0} (x : ℕ) (p : Form A) (heads : FirstByte x p) (again : p .Follow x) (add : R → A → R) (count : R → ℕ) (t : List ℕ) where
   -- The record was r₀ where the loop began at i, and is r at the place e. Each item but one that was broken off took a byte.
   pub record Collected (r₀ : R) (i : ℕ) (before : Bool) (r : R) (e : ℕ) (stop : Bool) : Type 0 where
     pub items : List A
     pub run : Run x p heads again t i before items e stop
-    pub kept : (xs : List A) → r₀ ≡ keep xs → r ≡ keep (xs ++ items)
+    pub kept : r ≡ foldl add r₀ items
     pub few : count r ≤ e + 1
     pub fewer : stop ≡ false → count r ≤ e
 
@@ -26,7 +26,7 @@ module _ {A R : Type 0} (x : ℕ) (p : Form A) (heads : FirstByte x p) (again : 
   collected-first r i before a e stop l item one = record {
     items = [];
     run = run-start x p heads again t e stop (reads-within p t i before a e stop l item);
-    kept = λ xs q. q ∙ ap keep (sym (append-nil xs));
+    kept = refl;
     few = omega (arith, one);
     fewer = λ q. omega (arith, one, moves x p heads again t (reads-found p t i before a e stop q item .1));
   }
@@ -34,25 +34,25 @@ module _ {A R : Type 0} (x : ℕ) (p : Form A) (heads : FirstByte x p) (again : 
   module _ (r₀ : R) (i : ℕ) (before : Bool) (r : R) (e : ℕ) (stop : Bool) (so-far : Collected r₀ i before r e stop) where
     -- one item more
     pub collected-next : not stop && startsWith x (drop e t) ≡ true → (a : A) (g : ℕ) (last : Bool) → Reads p t e stop a g last → (new : R)
-        → ((xs : List A) → r ≡ keep xs → new ≡ keep (xs ++ a ∷ [])) → count new ≡ count r + 1 → Collected r₀ i before new g last
+        → new ≡ add r a → count new ≡ count r + 1 → Collected r₀ i before new g last
     collected-next test a g last item new adds one =
         let on = item-on x p heads again t e stop test a g last item in
         let going = Rattle.forms.proofs.Repeat.going x p heads again t e stop test a g last item in
         record {
           items = so-far .items ++ a ∷ [];
           run = run-next x p heads again t e stop test a g last item i before (so-far .items) (so-far .run);
-          kept = λ xs q. adds (xs ++ so-far .items) (so-far .kept xs q) ∙ ap keep (append-assoc xs (so-far .items) (a ∷ []));
+          kept = adds ∙ ap (λ (q : R). add q a) (so-far .kept) ∙ sym (foldl-append add r₀ (so-far .items) (a ∷ []));
           few = omega (arith, one, so-far .fewer going);
           fewer = λ q. omega (arith, one, so-far .fewer going, item-moves x p heads again t e stop test a g last item q);
         }
 
-    -- and none more: all items of the list
+    -- and none more: all items of the list, where the first was added to k
     pub collected-done : not stop && startsWith x (drop e t) ≡ false → (j : ℕ) (start : Bool) (a : A) → Reads p t j start a i before
-        → r₀ ≡ keep (a ∷ [])
-        → (xs : List A) × (r ≡ keep xs) × Reads (one-or-more x p heads again) t j start xs e stop
-    collected-done test j start a item first = (
+        → (k : R) → r₀ ≡ add k a
+        → (xs : List A) × (r ≡ foldl add k xs) × Reads (one-or-more x p heads again) t j start xs e stop
+    collected-done test j start a item k first = (
       a ∷ so-far .items,
-      so-far .kept (a ∷ []) first,
+      so-far .kept ∙ ap (λ (q : R). foldl add q (so-far .items)) first,
       first-then x p heads again t j start a i before (so-far .items) e stop item
           (run-done x p heads again t i before (so-far .items) e stop (so-far .run) test),
     )

@@ -1,7 +1,8 @@
 // The lines of a bid book, parsed into a record: the demand, and the bids.
+ghost use mathlib.Core.Path.{_≡_};
 ghost use Prim.Native.Nat.{_≤_};
 ghost use lib.ListN.{length};
-ghost use Rattle.booklines.specs.Parses.{ParsesDemand, ParsesBid, ParsesBids};
+ghost use Rattle.booklines.specs.Parses.{ParsesDemand, ParsesBidder, ParsesBid, ParsesBids, ParsesLines};
 
 // The segments of a bid. The module is private: what is pub in it serves this crate alone.
 mod segments;
@@ -9,7 +10,6 @@ mod segments;
 use book::Book;
 use money::Blanks;
 use scanner::Cursor;
-use scanner::ParsedNumber;
 use segments::ParsedBid;
 
 // A record, and where parsing stands after it. Where it has stopped, the record is of no meaning.
@@ -18,32 +18,43 @@ pub struct ParsedBook {
     pub next: Cursor,
 }
 
+// What a bid has before its segments, in a record with none.
+fn bidder(text: &[u8], from: Cursor) -> ParsedBid
+    requires { ⌜ from .at ≤ length (now text) ⌝ }
+    ensures { λ r. ⌜ ParsesBidder (now (text .entry)) from (r .bid) (r .next) ⌝ }
+    ensures { λ r. ⌜ r .next .at ≤ length (now (text .entry)) ⌝ }
+{
+    let start = scanner::word(text, from, b"(bid ");
+    let parsed = numberline::spaced(text, start, 0);
+    let next = parsed.next;
+    let mut bid = bookrecord::empty_bid();
+    bid.bidder = parsed.first;
+    ParsedBid { bid, next }
+}
+
 fn bid(text: &[u8], from: Cursor) -> ParsedBid
     requires { ⌜ from .at ≤ length (now text) ⌝ }
     ensures { λ r. ⌜ ParsesBid (now (text .entry)) from (r .bid) (r .next) ⌝ }
     ensures { λ r. ⌜ r .next .at ≤ length (now (text .entry)) ⌝ }
 {
-    let open = scanner::word(text, from, b"(bid ");
-    let bidder = scanner::number(text, open, 0);
-    let after_bidder = bidder.next;
-    let parsed = segments::segments(text, after_bidder, bidder.value);
+    let head = bidder(text, from);
+    let empty = head.bid;
+    let after_head = head.next;
+    let parsed = segments::segments(text, after_head, empty);
     let bid = parsed.bid;
     let after_segments = parsed.next;
     let next = scanner::word(text, after_segments, b")\n");
     ParsedBid { bid, next }
 }
 
-// One or more bids, kept in a record with the demand.
-pub fn bids(text: &[u8], from: Cursor, demand: u64) -> ParsedBook
-    requires { ⌜ from .at ≤ length (now text) ⌝ }
-    ensures { λ r. ⌜ ParsesBids (now (text .entry)) from demand (r .book) (r .next) ⌝ }
+// One or more bids, added to the record of a head.
+fn bids(text: &[u8], from: Cursor, head: Book) -> ParsedBook
+    requires { ⌜ (from .at ≤ length (now text)) × (head .count ≡ 0) ⌝ }
+    ensures { λ r. ⌜ ParsesBids (now (text .entry)) from head (r .book) (r .next) ⌝ }
 {
     let first = bid(text, from);
-    let mut book = bookrecord::empty_book();
-    let blanks = Blanks(demand);
-    book.demand = blanks;
     let b = first.bid;
-    book = bookrecord::with_bid(book, b);
+    let mut book = bookrecord::with_bid(head, b);
     let mut next = first.next;
     while scanner::begins(text, next, b'(') {
         let parsed = bid(text, next);
@@ -54,12 +65,27 @@ pub fn bids(text: &[u8], from: Cursor, demand: u64) -> ParsedBook
     ParsedBook { book, next }
 }
 
-// The demand's line. It is pub, as `bids` is, for the reader.
-pub fn demand(text: &[u8], from: Cursor) -> ParsedNumber
+// The demand's line, in the record of a book with no bid.
+fn demand(text: &[u8], from: Cursor) -> ParsedBook
     requires { ⌜ from .at ≤ length (now text) ⌝ }
-    ensures { λ r. ⌜ ParsesDemand (now (text .entry)) from (r .value) (r .next) ⌝ }
+    ensures { λ r. ⌜ ParsesDemand (now (text .entry)) from (r .book) (r .next) ⌝ }
     ensures { λ r. ⌜ r .next .at ≤ length (now (text .entry)) ⌝ }
 {
-    let open = scanner::word(text, from, b"(demand ");
-    scanner::field(text, open, b")\n")
+    let parsed = numberline::line(text, from, b"(demand ", 0, b")\n");
+    let next = parsed.next;
+    let mut book = bookrecord::empty_book();
+    let demand = Blanks(parsed.first);
+    book.demand = demand;
+    ParsedBook { book, next }
+}
+
+// All lines of a book.
+pub fn lines(text: &[u8], from: Cursor) -> ParsedBook
+    requires { ⌜ from .at ≤ length (now text) ⌝ }
+    ensures { λ r. ⌜ ParsesLines (now (text .entry)) from (r .book) (r .next) ⌝ }
+{
+    let line = demand(text, from);
+    let head = line.book;
+    let after = line.next;
+    bids(text, after, head)
 }

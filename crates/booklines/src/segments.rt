@@ -1,4 +1,5 @@
 // The segments of a bid.
+ghost use mathlib.Core.Path.{_≡_};
 ghost use Prim.Native.Nat.{_≤_};
 ghost use lib.ListN.{length};
 ghost use Rattle.scanner.specs.Scans.{Scans};
@@ -26,38 +27,31 @@ fn segment(text: &[u8], from: Cursor) -> ParsedSegment
     ensures { λ r. ⌜ Scans Form.segment (now (text .entry)) from (r .segment) (r .next) ⌝ }
     ensures { λ r. ⌜ r .next .at ≤ length (now (text .entry)) ⌝ }
 {
-    let open = scanner::word(text, from, b" (seg ");
-    let start = scanner::field(text, open, b" ");
-    let after_start = start.next;
-    let end = scanner::field(text, after_start, b" ");
-    let after_end = end.next;
-    let unit = scanner::field(text, after_end, b" ");
-    let after_unit = unit.next;
-    let fixed = scanner::signed(text, after_unit);
+    let parsed = numberline::line(text, from, b" (seg ", 2, b" ");
+    let after_numbers = parsed.next;
+    let fixed = scanner::signed(text, after_numbers);
     let after_fixed = fixed.next;
     let next = scanner::word(text, after_fixed, b")");
     ParsedSegment {
         segment: Segment {
-            start: Blanks(start.value),
-            end: Blanks(end.value),
-            unit: CentsPerBlank(unit.value),
+            start: Blanks(parsed.first),
+            end: Blanks(parsed.second),
+            unit: CentsPerBlank(parsed.third),
             fixed: Cents(fixed.value),
         },
         next,
     }
 }
 
-// One or more segments, kept in a record of the bidder.
-pub fn segments(text: &[u8], from: Cursor, bidder: u64) -> ParsedBid
-    requires { ⌜ from .at ≤ length (now text) ⌝ }
-    ensures { λ r. ⌜ ParsesSegments (now (text .entry)) from bidder (r .bid) (r .next) ⌝ }
+// One or more segments, added to the record of a bid that has none.
+pub fn segments(text: &[u8], from: Cursor, head: Bid) -> ParsedBid
+    requires { ⌜ (from .at ≤ length (now text)) × (head .count ≡ 0) ⌝ }
+    ensures { λ r. ⌜ ParsesSegments (now (text .entry)) from head (r .bid) (r .next) ⌝ }
     ensures { λ r. ⌜ r .next .at ≤ length (now (text .entry)) ⌝ }
 {
     let first = segment(text, from);
-    let mut bid = bookrecord::empty_bid();
-    bid.bidder = bidder;
     let s = first.segment;
-    bid = bookrecord::with_segment(bid, s);
+    let mut bid = bookrecord::with_segment(head, s);
     let mut next = first.next;
     while scanner::begins(text, next, b' ') {
         let parsed = segment(text, next);

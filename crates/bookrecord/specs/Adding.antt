@@ -1,12 +1,14 @@
 -- For the contracts of the functions that fill a record: a record with an entry more, stored where there is room, and counted.
 use Prim.Native.Nat.{ℕ, _+_}
 use mathlib.Core.Bool.{cond}
-use mathlib.Core.List.{List}
+use mathlib.Core.List.{List, foldl}
 use lib.Dec.{ltb}
 use lib.ListN.{set}
 use Rattle.book.specs.declared.Segment.{Segment}
 use Rattle.book.specs.declared.Bid.{Bid}
 use Rattle.book.specs.declared.Book.{Book}
+use Rattle.book.specs.Entries.{BidEntries}
+use Rattle.booktext.specs.Record.{bidRecord}
 
 abbrev pub added : {A : Type 0} → ℕ → List A → ℕ → A → List A
 added room xs count x = cond (ltb count room) (set xs count x) xs
@@ -16,3 +18,10 @@ withSegment b s = record { bidder = b .bidder; count = b .count + 1; segments = 
 
 abbrev pub withBid : Book → Bid → Book
 withBid b bid = record { demand = b .demand; count = b .count + 1; bids = added 8 (b .bids) (b .count) bid }
+
+-- entries more, one after the other
+abbrev pub withSegments : Bid → List Segment → Bid
+withSegments = foldl withSegment
+
+abbrev pub withBids : Book → List BidEntries → Book
+withBids = foldl (λ r b. withBid r (bidRecord b))

@@ -1,13 +1,12 @@
 -- What a record holds of the entries of a text: the first n, then blanks; and the entries that it gives back. Assumes nothing.
 use Prim.Native.Nat.{_≤_}
-use mathlib.Core.List.{List, _++_, map}
+use mathlib.Core.List.{_++_, map}
 use mathlib.Core.Path.{_≡_, refl, ap, _∙_, subst}
 use lib.ListN.{replicate, length-map}
 use Rattle.lists.specs.All.{All}
 use Rattle.lists.proofs.All.{all-from, all-both, all-any, all-append, all-same, all-take, all-map, map-all, map-back}
 use Rattle.lists.proofs.Padded.{length-padded, take-count}
 use Rattle.refusal.specs.declared.Verdict.the-variants.{Accepted}
-use Rattle.book.specs.declared.Segment.{Segment}
 use Rattle.book.specs.Entries.{BidEntries, BookEntries, bidEntries, bookEntries}
 use Rattle.book.specs.Rules.{bookVerdict}
 use Rattle.book.proofs.Accepted.{AcceptedBid, book-accepted, all-accepted}
@@ -23,7 +22,7 @@ bid-back : (b : BidEntries) → WellFormedBid b × FewSegments b → bidEntries 
 unfolding bidRecord
 bid-back b h =
     let same = take-count 6 (b .count) emptySegment (b .segments) (h .0 .count) (h .1) in
-    ap (λ (ss : List Segment). record { bidder = b .bidder; count = b .count; segments = ss }) same
+    rw same
 
 module _ (b : BookEntries) (well-formed : WellFormedBook b) where
   -- the bids within the record's count
@@ -39,7 +38,7 @@ module _ (b : BookEntries) (well-formed : WellFormedBook b) where
   entries-back few segments =
       let each = all-from _ _ bid-back (b .bids) (all-both WellFormedBid FewSegments (b .bids) (well-formed .bids) segments) in
       let same = bids-of-record few ∙ map-back bidRecord bidEntries (b .bids) each in
-      ap (λ (bs : List BidEntries). record { demand = b .demand; count = b .count; bids = bs }) same
+      rw same
 
   -- the counts stay as they are, so that an accepted record had room
   pub entries-of-record : bookVerdict (bookEntries (bookRecord b)) ≡ Accepted → bookEntries (bookRecord b) ≡ b

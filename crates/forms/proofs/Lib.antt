@@ -13,3 +13,5 @@ pub mod Signed
 pub mod Whole
 pub mod Place
 pub mod Repeat
+pub mod Framed
+pub mod Spaced

@@ -4,11 +4,10 @@
 ghost use mathlib.Core.Path.{_≡_};
 ghost use Prim.Native.Nat.{_≤_};
 ghost use lib.ListN.{length};
-ghost use Rattle.booklines.specs.Parses.{ParsesDemand, ParsesBids};
+ghost use Rattle.booklines.specs.Parses.{ParsesLines};
 ghost use Rattle.reader.specs.Parses.{start, ParsesBook};
 use booklines::ParsedBook;
 use scanner::Cursor;
-use scanner::ParsedNumber;
 
 // The text itself, never a copy of it, and where parsing stands in it.
 pub struct Reader<'a> {
@@ -28,27 +27,12 @@ fn new<'a>(text: &'a [u8]) -> Reader<'a>
     }
 }
 
-// The same text, at another place.
-fn moved<'a>(r: Reader<'a>, next: Cursor) -> Reader<'a>
-    ensures { λ q. ⌜ (q .text ≡ r .entry .text) × (q .next ≡ next) ⌝ }
-{
-    Reader { text: r.text, next }
-}
-
-// The demand, taken from the next line.
-fn demand<'a>(r: Reader<'a>) -> ParsedNumber
+// The book whose lines are next.
+fn lines<'a>(r: Reader<'a>) -> ParsedBook
     requires { ⌜ r .next .at ≤ length (now (r .text)) ⌝ }
-    ensures { λ d. ⌜ ParsesDemand (now (r .entry .text)) (r .entry .next) (d .value) (d .next) × (d .next .at ≤ length (now (r .entry .text))) ⌝ }
+    ensures { λ b. ⌜ ParsesLines (now (r .entry .text)) (r .entry .next) (b .book) (b .next) ⌝ }
 {
-    booklines::demand(r.text, r.next)
-}
-
-// The bids, taken from the next lines.
-fn bids<'a>(r: Reader<'a>, demand: u64) -> ParsedBook
-    requires { ⌜ r .next .at ≤ length (now (r .text)) ⌝ }
-    ensures { λ b. ⌜ ParsesBids (now (r .entry .text)) (r .entry .next) demand (b .book) (b .next) ⌝ }
-{
-    booklines::bids(r.text, r.next, demand)
+    booklines::lines(r.text, r.next)
 }
 
 // A whole text. Its parameter is plain, so whoever calls it needs no proof by hand.
@@ -56,7 +40,5 @@ pub fn book(text: &[u8]) -> ParsedBook
     ensures { λ b. ⌜ ParsesBook (now (text .entry)) (b .book) (b .next) ⌝ }
 {
     let first = new(text);
-    let line = demand(first);
-    let after = moved(first, line.next);
-    bids(after, line.value)
+    lines(first)
 }

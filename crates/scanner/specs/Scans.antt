@@ -2,9 +2,7 @@
 use Prim.Native.Nat.{ℕ, _≤_}
 use mathlib.Core.List.{List}
 use Rattle.forms.proofs.Form.{Form}
-use Rattle.forms.proofs.Word.{word}
 use Rattle.forms.proofs.Number.{number}
-use Rattle.forms.proofs.Signed.{from-0}
 use Rattle.forms.proofs.Place.{Reads}
 use Rattle.scanner.specs.declared.Cursor.{Cursor}
 
@@ -15,7 +13,3 @@ Scans p t from a next = Reads p t (from .at) (from .stopped) a (next .at) (next 
 -- a number from `least` on, which is 0 or 1
 abbrev pub ScansNumber : ℕ → List ℕ → Cursor → ℕ → Cursor → Type 0
 ScansNumber least t from n next = (small : least ≤ 1) → Scans (number least small) t from n next
-
--- a number and then the word w
-abbrev pub ScansField : List ℕ → List ℕ → Cursor → ℕ → Cursor → Type 0
-ScansField w t from n next = (between : Cursor) × Scans (number 0 from-0) t from n between × Scans (word w) t between tt next

@@ -7,7 +7,7 @@ ghost use lib.ListN.{length, drop};
 ghost use Rattle.forms.proofs.Form.{startsWith};
 ghost use Rattle.forms.proofs.Word as Word;
 ghost use Rattle.forms.proofs.Signed as Signed;
-ghost use Rattle.scanner.specs.Scans.{Scans, ScansNumber, ScansField};
+ghost use Rattle.scanner.specs.Scans.{Scans, ScansNumber};
 
 // The parts of a number. The modules are private: what is pub in them serves this crate alone.
 mod digits;
@@ -137,21 +137,6 @@ pub fn signed(text: &[u8], from: Cursor) -> ParsedInteger
     let next = n.next;
     ParsedInteger {
         value: signs::plus(n.value),
-        next,
-    }
-}
-
-// A number, and then the bytes of w.
-pub fn field(text: &[u8], from: Cursor, w: &[u8]) -> ParsedNumber
-    requires { ⌜ from .at ≤ length (now text) ⌝ }
-    ensures { λ r. ⌜ ScansField (now (w .entry)) (now (text .entry)) from (r .value) (r .next) ⌝ }
-    ensures { λ r. ⌜ r .next .at ≤ length (now (text .entry)) ⌝ }
-{
-    let parsed = number(text, from, 0);
-    let between = parsed.next;
-    let next = word(text, between, w);
-    ParsedNumber {
-        value: parsed.value,
         next,
     }
 }

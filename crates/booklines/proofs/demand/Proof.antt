@@ -1,23 +1,15 @@
+-- One line of numbers. Assumes nothing.
+use Rattle.forms.proofs.Spaced.{numbersIn}
+use Rattle.booktext.specs.Record.{bookRecord}
+use Rattle.booktext.proofs.BookForm.{line-closes, bookFurther}
+use Rattle.numberline.specs.ScansLine.{valuesOf}
 use borrow.Author.Needs.{needs}
 use Rattle.booklines.proofs.demand.Statement.{statement}
 use Rattle.booklines.proofs.demand.Tie as tie
 
-slice-aggregate-word : tie.Need-slice-aggregate-word
-slice-aggregate-word c = search needs
-
-word-requires : tie.Need-word-requires
-word-requires c κs = search needs
-
-slice-aggregate-field : tie.Need-slice-aggregate-field
-slice-aggregate-field c = search needs
-
-field-requires : tie.Need-field-requires
-field-requires c κs = c .before .word .ensures .1
-
 returns : tie.Need-returns
-returns c =
-    let w = c .before .before .word in
-    ((w .result, w .ensures .0, c .field .ensures .0), c .field .ensures .1)
+unfolding bookRecord
+returns c = let l = c .before .before .line in ((numbersIn bookFurther (valuesOf (l .result)), rw (c .empty-book .ensures), l .ensures .0 line-closes), l .ensures .1)
 
 pub demand-spec : {M : Type 1} → statement M
-demand-spec = tie.close (tie.spec slice-aggregate-word word-requires slice-aggregate-field field-requires returns)
+demand-spec = tie.close (tie.spec (λ c. search needs) (λ c. search needs) (λ c κs. search needs) (λ c κs. search needs) returns)

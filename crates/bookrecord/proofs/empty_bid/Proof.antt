@@ -1,12 +1,10 @@
+-- The record is written out. Assumes nothing.
 use borrow.Author.Needs.{needs}
 use Rattle.bookrecord.proofs.empty_bid.Statement.{statement}
 use Rattle.bookrecord.proofs.empty_bid.Tie as tie
-
-empty-segment-requires : tie.Need-empty-segment-requires
-empty-segment-requires c κs = search needs
 
 returns : tie.Need-returns
 returns c = rw (c .empty-segment .ensures)
 
 pub empty-bid-spec : {M : Type 1} → statement M
-empty-bid-spec = tie.close (tie.spec empty-segment-requires returns)
+empty-bid-spec = tie.close (tie.spec (λ c κs. search needs) returns)

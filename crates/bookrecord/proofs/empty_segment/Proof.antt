@@ -1,3 +1,4 @@
+-- The record is written out. Assumes nothing.
 use mathlib.Core.Path.{refl}
 use Rattle.bookrecord.proofs.empty_segment.Statement.{statement}
 use Rattle.bookrecord.proofs.empty_segment.Tie as tie

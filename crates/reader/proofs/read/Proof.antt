@@ -1,3 +1,4 @@
+-- By cases: too long, stopped, bytes left over, refused by a rule, accepted; each is a law of `readOf` (`Answers`). Assumes nothing.
 use mathlib.Core.Path.{_∙_, subst}
 use Rattle.forms.proofs.Place.{Gives}
 use Rattle.booktext.proofs.BookForm.{book}

@@ -1,3 +1,4 @@
+-- The answer is written out. Assumes nothing.
 use borrow.Author.Needs.{needs}
 use Rattle.reader.proofs.refused.Statement.{statement}
 use Rattle.reader.proofs.refused.Tie as tie

@@ -1,3 +1,4 @@
+-- The loop keeps the value of the digits passed and that they begin a number; it ends before the first byte that is no further digit. Assumes nothing.
 use Prim.Native.Nat.{_-_, _≤_}
 use native.Mathlib.Omega.{arith}
 use mathlib.Core.Path.{refl, sym, subst}
@@ -55,9 +56,6 @@ loop-holds c =
     let first = passed (c .before .before .before .is-first-at .ensures) (c .before .before .if2 .left) in
     λ small. number-first (a .least) small (a .text .now) (a .from .at) (c .value-of .result) first (c .value-of .ensures)
 
-shared-slice-read-b : tie.Need-shared-slice-read-b Inv-loop μ-loop
-shared-slice-read-b c = omega arith
-
 goes-on-requires : tie.Need-goes-on-requires Inv-loop μ-loop
 goes-on-requires c κs = tt
 
@@ -92,12 +90,6 @@ add-value c =
     let small = c .before .before .before .before .before .before .before .before .before .before .before .before .pre .1 in
     let goes-on = passed (c .before .before .goes-on .ensures) (c .before .if3 .left) in
     omega (arith, number-goes (a .least) small (a .text .now) (a .from .at) (l .value) (l .i) (l .inv small) (omega arith) (c .value-of2 .result) goes-on (c .value-of2 .ensures) .few)
-
-add-i-2 : tie.Need-add-i-2 Inv-loop μ-loop
-add-i-2 c = omega arith
-
-loop-less : tie.Need-loop-less Inv-loop μ-loop
-loop-less c = omega arith
 
 loop-again : tie.Need-loop-again Inv-loop μ-loop
 loop-again c =
@@ -137,15 +129,15 @@ number-spec =
     value-of-requires
     add-i
     loop-holds
-    shared-slice-read-b
+    (λ c. omega arith)
     goes-on-requires
     number-to-requires
     returns-3
     mul-value
     value-of-requires-2
     add-value
-    add-i-2
-    loop-less
+    (λ c. omega arith)
+    (λ c. omega arith)
     loop-again
     number-to-requires-2
     returns-4)

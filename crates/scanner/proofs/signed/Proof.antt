@@ -1,3 +1,4 @@
+-- By whether `-` is the next byte: a negative number from 1 on, or one without a sign. Assumes nothing.
 use native.Mathlib.Omega.{arith}
 use mathlib.Core.Path.{sym, _∙_, subst}
 use lib.IntN.{ℤ}
@@ -9,21 +10,12 @@ use borrow.Author.Needs.{needs}
 use Rattle.scanner.proofs.signed.Statement.{statement}
 use Rattle.scanner.proofs.signed.Tie as tie
 
-begins-requires : tie.Need-begins-requires
-begins-requires c κs = search needs
-
-add-t9 : tie.Need-add-t9
-add-t9 c = search needs
-
 number-requires : tie.Need-number-requires
 number-requires c κs =
     let a = c .before .before .before .args in (
       omega (arith, begins-within (a .text .now) (a .from .at) (a .from .stopped) 45 (sym (c .before .begins .ensures) ∙ c .if1 .taken)),
       omega arith,
     )
-
-minus-requires : tie.Need-minus-requires
-minus-requires c κs = search needs
 
 returns : tie.Need-returns
 returns c =
@@ -36,12 +28,6 @@ returns c =
           (c .before .before .number .ensures .1 .0 from-1)),
       c .before .before .number .ensures .1 .1,
     )
-
-number-requires-2 : tie.Need-number-requires-2
-number-requires-2 c κs = search needs
-
-plus-requires : tie.Need-plus-requires
-plus-requires c κs = search needs
 
 returns-2 : tie.Need-returns-2
 returns-2 c =
@@ -59,11 +45,11 @@ pub signed-spec : {M : Type 1} → statement M
 signed-spec =
     tie.close
     (tie.spec
-    begins-requires
-    add-t9
+    (λ c κs. search needs)
+    (λ c. search needs)
     number-requires
-    minus-requires
+    (λ c κs. search needs)
     returns
-    number-requires-2
-    plus-requires
+    (λ c κs. search needs)
+    (λ c κs. search needs)
     returns-2)

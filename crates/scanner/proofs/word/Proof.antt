@@ -1,3 +1,4 @@
+-- The loop keeps that the bytes passed are those of the word; where one differs, the word is broken off there. Assumes nothing.
 use Prim.Native.Nat.{_+_, _-_, _≤_}
 use native.Mathlib.Omega.{arith}
 use mathlib.Core.Path.{refl, sym, subst}
@@ -27,9 +28,6 @@ loop-holds c = let a = c .before .before .before .args in along-start (a .text .
 add-byte-at : tie.Need-add-byte-at Inv-loop μ-loop
 add-byte-at c = omega (arith, c .before .loop .inv .in-text)
 
-shared-slice-read-byte-at : tie.Need-shared-slice-read-byte-at Inv-loop μ-loop
-shared-slice-read-byte-at c = omega arith
-
 byte-at-requires : tie.Need-byte-at-requires Inv-loop μ-loop
 byte-at-requires c κs = tt
 
@@ -48,9 +46,6 @@ returns-2 c =
 
 add-i : tie.Need-add-i Inv-loop μ-loop
 add-i c = omega (arith, c .before .before .before .before .loop .inv .in-word)
-
-loop-less : tie.Need-loop-less Inv-loop μ-loop
-loop-less c = omega arith
 
 loop-again : tie.Need-loop-again Inv-loop μ-loop
 loop-again c =
@@ -77,13 +72,13 @@ word-spec =
     returns
     loop-holds
     add-byte-at
-    shared-slice-read-byte-at
+    (λ c. omega arith)
     byte-at-requires
     add-stop
     stop-requires
     returns-2
     add-i
-    loop-less
+    (λ c. omega arith)
     loop-again
     add-t13
     returns-3)

@@ -1,3 +1,4 @@
+-- The tests are those of the definition, one after the other. Assumes nothing.
 use native.Mathlib.Omega.{arith}
 use borrow.Author.Tests.{lt-ltb, le-ltb, le-leb, lt-leb}
 use Rattle.scanner.proofs.digits.goes_on.Statement.{statement}

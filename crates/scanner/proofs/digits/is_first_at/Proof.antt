@@ -1,3 +1,4 @@
+-- The tests are those of the definition, one after the other. Assumes nothing.
 use borrow.Author.Needs.{needs}
 use borrow.Author.Tests.{le-leb, lt-leb}
 use Rattle.scanner.proofs.Numbers.{first-at, first-past}
@@ -7,12 +8,6 @@ use Rattle.scanner.proofs.digits.is_first_at.Tie as tie
 
 returns : tie.Need-returns
 returns c = let a = c .before .args in rw (first-past (a .text .now) (a .at) (a .least) (c .if1 .taken))
-
-shared-slice-read-b : tie.Need-shared-slice-read-b
-shared-slice-read-b c = search needs
-
-add-if2 : tie.Need-add-if2
-add-if2 c = search needs
 
 returns-2 : tie.Need-returns-2
 returns-2 c =
@@ -25,4 +20,4 @@ returns-3 c =
     rw (first-at (a .text .now) (a .at) (a .least) (c .before .before .if1 .left), le-leb _ _ (c .if2 .left))
 
 pub is-first-at-spec : {M : Type 1} → statement M
-is-first-at-spec = tie.close (tie.spec returns shared-slice-read-b add-if2 returns-2 returns-3)
+is-first-at-spec = tie.close (tie.spec returns (λ c. search needs) (λ c. search needs) returns-2 returns-3)

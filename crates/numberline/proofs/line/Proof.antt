@@ -1,0 +1,21 @@
+-- A word, the numbers and a word, read one after the other (`reads-framed`). Assumes nothing.
+use Rattle.forms.proofs.Framed.{reads-framed}
+use Rattle.forms.proofs.Spaced.{numbers, numbersIn}
+use Rattle.numberline.specs.ScansLine.{valuesOf}
+use borrow.Author.Needs.{needs}
+use Rattle.numberline.proofs.line.Statement.{statement}
+use Rattle.numberline.proofs.line.Tie as tie
+
+returns : tie.Need-returns
+returns c =
+    let a = c .before .before .before .before .before .before .before .args in
+    let w = c .before .before .before .word in
+    let n = c .before .before .spaced in (
+      λ closes. reads-framed (a .start .now) (numbers (a .further)) (a .close .now) closes (a .text .now) (a .from .at) (a .from .stopped)
+          (w .result .at) (w .result .stopped) (numbersIn (a .further) (valuesOf (n .result))) (n .result .next .at) (n .result .next .stopped)
+          (c .word2 .result .at) (c .word2 .result .stopped) (w .ensures .0) (n .ensures .0) (c .word2 .ensures .0),
+      c .word2 .ensures .1,
+    )
+
+pub line-spec : {M : Type 1} → statement M
+line-spec = tie.close (tie.spec (λ c κs. search needs) (λ c κs. search needs) (λ c κs. search needs) returns)
