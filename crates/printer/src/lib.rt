@@ -1,18 +1,18 @@
-// Words, numbers and prices written into a lent output. The functions are pub for the writers of texts, which put them together:
-// each that writes answers the place after what it wrote, and its caller has measured that there is room.
-mod cents;
-
-pub use cents::cents_length;
-pub use cents::write_cents;
+// Words, numbers and prices put into a lent output. The functions are pub for what puts lines together. Each answers the place after what
+// it puts; where that lies past the output's end, nothing is stored of it. So a text is measured by putting it into an output that is
+// too short, and no second code counts bytes. A place is bounded so that no sum wraps.
 ghost use mathlib.Core.Path.{_≡_};
-ghost use mathlib.Core.List.{_++_};
-ghost use Prim.Native.Nat.{_+_, _≤_, _<_};
+ghost use Prim.Native.Nat.{_+_, _^_, _≤_, _<_};
 ghost use lib.ListN.{length};
 ghost use Rattle.forms.specs.Digits.{digits};
-ghost use Rattle.printer.specs.Written.{Wrote};
+ghost use Rattle.printer.specs.Written.{Wrote, placed, Put};
+
+mod cents;
+
+pub use cents::put_cents;
 
 // The bytes of w, from `at` on.
-pub fn write_word(out: &mut [u8], at: usize, w: &[u8]) -> usize
+fn write_word(out: &mut [u8], at: usize, w: &[u8]) -> usize
     requires { ⌜ at + length (now w) ≤ length (now out) ⌝ }
     ensures { λ r. ⌜ Wrote (now (out .entry)) at (now (w .entry)) (now (out .exit)) r ⌝ }
 {
@@ -46,18 +46,37 @@ fn digit(d: u64) -> u8
     48 + (d as u8)
 }
 
-// The bytes of w, and right after them the digits of n.
-pub fn write_number(out: &mut [u8], at: usize, w: &[u8], n: u64) -> usize
-    requires { ⌜ at + (length (now w) + length (digits n)) ≤ length (now out) ⌝ }
-    ensures { λ r. ⌜ Wrote (now (out .entry)) at (now (w .entry) ++ digits n) (now (out .exit)) r ⌝ }
+// The bytes of w, from `at` on, where they fit. Answers the place after them all the same.
+pub fn put_word(out: &mut [u8], at: usize, w: &[u8]) -> usize
+    requires { ⌜ at < 2 ^ 63 ⌝ }
+    requires { ⌜ length (now w) ≤ 32 ⌝ }
+    ensures { λ r. ⌜ r ≡ at + length (now (w .entry)) ⌝ }
+    ensures { λ r. ⌜ now (out .exit) ≡ placed (now (out .entry)) at (now (w .entry)) ⌝ }
+    ensures { λ r. ⌜ r ≤ at + 32 ⌝ }
 {
-    let start = write_word(out, at, w);
-    let count = write_digits(&mut out[start..], n);
-    start + count
+    let next = at + w.len();
+    if out.len() < next {
+        return next;
+    }
+    write_word(out, at, w)
+}
+
+// The digits of n in the same way.
+pub fn put_number(out: &mut [u8], at: usize, n: u64) -> usize
+    requires { ⌜ at < 2 ^ 63 ⌝ }
+    ensures { λ r. ⌜ Put (now (out .entry)) at (digits n) (now (out .exit)) r ⌝ }
+    ensures { λ r. ⌜ r ≤ at + 20 ⌝ }
+{
+    let next = at + digit_count(n);
+    if out.len() < next {
+        return next;
+    }
+    write_digits(&mut out[at..], n);
+    next
 }
 
 // How many digits n has.
-pub fn digit_count(n: u64) -> usize
+fn digit_count(n: u64) -> usize
     ensures { λ r. ⌜ r ≡ length (digits n) ⌝ }
     ensures { λ r. ⌜ r ≤ 20 ⌝ }
 {

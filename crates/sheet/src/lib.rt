@@ -5,11 +5,10 @@ ghost use Rattle.refusal.specs.declared.Verdict.the-variants.{Accepted};
 ghost use Rattle.sheettext.specs.Sheet.{sheetText};
 ghost use Rattle.output.specs.Writing.{writtenOf, outputAfter};
 
-// The lines of the sheet, and how long they are; the line of a refusal. The modules are private: of what is pub in them only
+// The lines of the sheet; the line of a refusal. The modules are private: of what is pub in them only
 // `write_refusal` is an entry.
-mod lengths;
-mod lines;
 mod refusals;
+mod rows;
 
 use award::Award;
 use output::TextWritten;
@@ -20,10 +19,11 @@ pub fn write(award: Award, out: &mut [u8]) -> TextWritten
     ensures { λ r. ⌜ r ≡ writtenOf Accepted (sheetText award) (length (now (out .entry))) ⌝ }
     ensures { λ r. ⌜ now (out .exit) ≡ outputAfter Accepted (sheetText award) (now (out .entry)) ⌝ }
 {
-    let needed = lengths::sheet_length(award);
+    let mut nowhere = [0u8; 1];
+    let needed = rows::put_sheet(&mut nowhere, award);
     if out.len() < needed {
         return output::too_short(needed);
     }
-    lines::write_sheet(out, award);
+    rows::put_sheet(out, award);
     output::whole(needed)
 }

@@ -12,14 +12,12 @@ pub fn write_refusal(verdict: Verdict, out: &mut [u8]) -> TextWritten
     ensures { λ r. ⌜ r ≡ writtenOf Accepted (refusalText verdict) (length (now (out .entry))) ⌝ }
     ensures { λ r. ⌜ now (out .exit) ≡ outputAfter Accepted (refusalText verdict) (now (out .entry)) ⌝ }
 {
-    let number = refusal::number(verdict);
-    let place = refusal::place(verdict);
-    let needed = 12 + printer::digit_count(number) + printer::digit_count(place);
+    let line = sheetlines::refusal_line(verdict);
+    let mut nowhere = [0u8; 1];
+    let needed = lines::put(&mut nowhere, 0, line);
     if out.len() < needed {
         return output::too_short(needed);
     }
-    let after_number = printer::write_number(out, 0, b"(refused ", number);
-    let after_place = printer::write_number(out, after_number, b" ", place);
-    printer::write_word(out, after_place, b")\n");
+    lines::put(out, 0, line);
     output::whole(needed)
 }

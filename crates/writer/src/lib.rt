@@ -3,9 +3,8 @@ ghost use mathlib.Core.Path.{_≡_};
 ghost use lib.ListN.{length};
 ghost use Rattle.writer.specs.Writing.{writeOf, outputOf};
 
-// The lines of the text, and how long they are. The modules are private: what is pub in them serves this crate alone.
-mod lengths;
-mod lines;
+// The lines of the text. The modules are private: what is pub in them serves this crate alone.
+mod bids;
 
 use book::Book;
 use output::TextWritten;
@@ -20,10 +19,11 @@ pub fn write(book: Book, out: &mut [u8]) -> TextWritten
     if let Verdict::Refused(_, _) = verdict {
         return output::refused(verdict);
     }
-    let needed = lengths::book_length(book);
+    let mut nowhere = [0u8; 1];
+    let needed = bids::put_book(&mut nowhere, book);
     if out.len() < needed {
         return output::too_short(needed);
     }
-    lines::write_book(out, book);
+    bids::put_book(out, book);
     output::whole(needed)
 }

@@ -1,0 +1,64 @@
+-- The loop keeps that the rows passed are put one after the other (`put-next`). Assumes nothing.
+use Prim.Native.Nat.{ℕ, _+_, _*_, _-_, _≤_, _<_}
+use native.Mathlib.Omega.{arith}
+use mathlib.Core.Path.{_≡_, refl, ap, _∙_}
+use borrow.Author.Needs.{needs}
+use lib.ListN.{length, take}
+use Rattle.lists.specs.Joined.{joined}
+use Rattle.lists.proofs.Slices.{length-held, take-held}
+use Rattle.printer.specs.Written.{Put}
+use Rattle.printer.proofs.Put.{put-none, put-as, put-next}
+use Rattle.sheettext.specs.Sheet.{rowText}
+use Rattle.sheet.proofs.Past.{pastRow}
+use Rattle.sheet.proofs.rows.put_rows.Statement.{statement}
+use Rattle.sheet.proofs.rows.put_rows.Tie as tie
+
+abbrev Inv-loop : tie.InvT-loop
+Inv-loop out₀ at award count next₀ i₀ out next i =
+    (i ≤ count) × (next ≤ at + 4000 * i) × (length out ≡ length out₀) × Put out₀ at (joined rowText (take i (award .rows))) out next
+
+abbrev μ-loop : tie.MeasureT-loop
+μ-loop out₀ at award count next₀ i₀ out next i = count - i
+
+eight : (c : tie.At-loop Inv-loop μ-loop) → length (c .before .before .before .args .t3 .rows) ≡ 8
+eight c = search (length-held, c .before .before .before .good)
+
+loop-holds : tie.Need-loop-holds Inv-loop μ-loop
+loop-holds c = (omega arith, omega arith, refl, put-none _ _)
+
+loop-again : tie.Need-loop-again Inv-loop μ-loop
+loop-again c =
+    let p = c .before .before .put in
+    let line = c .before .before .before .before .row-line in
+    let l = c .before .before .before .before .before .before .before in
+    let a = l .before .before .before .args in
+    let at = l .loop in
+    let row = put-as (at .out) (at .next) _ _ (p .last .0) (p .result) (line .ensures) (p .ensures .0) in
+    let text = put-next (a .out .now) (a .at) rowText (a .t3 .rows) (at .i) pastRow (at .out) (at .next) (p .last .0) (p .result) in
+    let within : at .i < length (a .t3 .rows) = omega (arith, eight l, l .before .row-count .ensures) in
+    (omega arith, omega (arith, p .ensures .1), p .kept .0 ∙ at .inv .2, text within (at .inv .2) (at .inv .3) row)
+
+returns : tie.Need-returns Inv-loop μ-loop
+returns c =
+    let a = c .before .before .before .before .args in
+    let at = c .before .loop in
+    let all = take-held (a .t3 .rows) (a .t3 .count) (at .i) (omega (arith, eight (c .before), c .before .before .row-count .ensures)) in
+    put-as (a .out .now) (a .at) _ _ (at .out) (at .next) (ap (joined rowText) all) (at .inv .3)
+
+pub put-rows-spec : {M : Type 1} → statement M
+put-rows-spec =
+    tie.close
+    (tie.spec
+    Inv-loop
+    μ-loop
+    (λ c κs. search needs)
+    loop-holds
+    (λ c. omega (arith, c .before .before .row-count .ensures))
+    (λ c. omega (arith, c .before .before .row-count .ensures, eight (c .before)))
+    (λ c κs. search needs)
+    (λ c κs. search needs)
+    (λ c. search needs)
+    (λ c. search needs)
+    loop-again
+    (λ c. c .before .loop .inv .2)
+    returns)

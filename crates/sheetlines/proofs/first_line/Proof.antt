@@ -1,0 +1,10 @@
+-- The parts, one after the other, are the text. Assumes nothing.
+use Rattle.lines.proofs.Together.{together}
+use Rattle.sheetlines.proofs.first_line.Statement.{statement}
+use Rattle.sheetlines.proofs.first_line.Tie as tie
+
+returns : tie.Need-returns
+returns c = simp together
+
+pub first-line-spec : {M : Type 1} → statement M
+first-line-spec = tie.close (tie.spec returns)
