@@ -4,12 +4,15 @@
 #          A piece from inside of a `module _ .. where` has that line quoted above it, since it holds what the piece is said of
 #   path   a file, folder or heading that a page cites exists
 #   name   a name cited together with a file is declared in it
-#   edit   CLAIMS.md cites every must-fail edit, and no edit that is not there
+#   edit   CLAIMS.md cites no must-fail edit that is not there, and its list of them is the one that tests/docs/edits.py makes; each edit says
+#          what it does and which function's contract it guards, and every public function of a library is guarded by two or more
 #   crate  ARCHITECTURE.md names every crate of crates.txt, and its table of groups no other
 import glob
 import os
 import re
 import sys
+
+import edits
 
 PAGES = ["README.md"] + sorted(glob.glob("docs/*.md"))
 # The landing notes speak of the past: of them only links are checked, and paths written with docs/ or tests/ in front.
@@ -248,13 +251,20 @@ def cited_edits():
 
 
 def check_edits():
-    there = {path: os.path.basename(path)[: -len(".edit")] for path in sorted(glob.glob("crates/*/must-fail/*.edit"))}
-    cited = list(cited_edits())
-    words = {word for _, word in cited}
-    for path, name in there.items():
-        check(name in words, CLAIMS, f"the edit {path} is not cited")
-    for number, word in cited:
-        check(word in there.values(), f"{CLAIMS}:{number}", f"no edit {word}")
+    there = edits.edits()
+    names = {edit.name for edit in there}
+    for number, word in cited_edits():
+        check(word in names, f"{CLAIMS}:{number}", f"no edit {word}")
+    for edit in there:
+        check(edit.text != "" and edit.guards != [], edit.path, "it does not say what it does, or what it guards")
+        for guarded in edit.guards:
+            crate, _, function = guarded.partition("::")
+            check(function in edits.functions(crate), edit.path, f"no function {guarded}")
+    for crate in edits.crates():
+        for function in edits.public(crate):
+            guards = [edit for edit in there if f"{crate}::{function}" in edit.guards]
+            check(len(guards) >= 2, f"crates/{crate}", f"fewer than two edits guard {function}")
+    check(read(CLAIMS) == edits.page(), CLAIMS, "its list of edits is not that of the files: python3 tests/docs/edits.py makes it")
 
 
 # ---- crates

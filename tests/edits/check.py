@@ -1,0 +1,55 @@
+# That the must-fail edits show something. The gate leaves the log of each at target/must-fail/CRATE/EDIT/.log. An edit that adds a call or
+# renames a local makes the proof file unfit for the code, and is refused whatever the contract says; one of the right shape is refused
+# since a fact is false. The first error of the log tells them apart. Run from the repository's top (tests/edits/run does).
+import glob
+import os
+import re
+import sys
+
+# What a first error says where the proof file does not fit the code, or the code's form is not covered by the prover's rules.
+UNFIT = [
+    (r"has no `\S+` that can be named from here", "a need that the code no longer has"),
+    (r"is not in scope", "a name that is not there"),
+    (r"expected type `\S*Need-\S+?`, but this has type `\S*Need-", "answers in another order than the needs"),
+    (r"arguments? (?:too many|too few)|too many arguments|too few arguments", "another number of needs than answers"),
+    (r"does not cover|not covered", "a form that is not covered"),
+    (r"was not admitted", "only what follows from another error"),
+]
+
+
+def first_error(log):
+    """The first error, or where the prover itself made the proof, the first fact that it says is not proved; with the lines that belong to it."""
+    found = re.search(r"^\S+: error: .*(?:\n {2}.*)*|^note: .*it is not proved that .*|^fn \S+: no proof: .*", log, re.M)
+    return found.group(0) if found else None
+
+
+def fault_of(log):
+    error = first_error(log)
+    if error is None:
+        return "no error in the log"
+    return next((f"{kind}: {error[:200]}" for pattern, kind in UNFIT if re.search(pattern, error)), None)
+
+
+def main():
+    passed, faults, missing = 0, [], 0
+    for path in sorted(glob.glob("crates/*/must-fail/*.edit")):
+        crate, name = path.split("/")[1], os.path.basename(path)[: -len(".edit")]
+        log = f"target/must-fail/{crate}/{name}/.log"
+        if not os.path.isfile(log):
+            missing += 1
+            continue
+        with open(log, encoding="utf-8", errors="replace") as file:
+            fault = fault_of(file.read())
+        if fault is None:
+            passed += 1
+        else:
+            faults.append(f"{path}: {fault}")
+    for fault in faults:
+        print(fault)
+    if missing:
+        print(f"{missing} edits have no log; the gate, .ci/run, leaves one of each")
+    print(f"{passed} passed, {len(faults)} failed")
+    return 1 if faults else 0
+
+
+sys.exit(main())
