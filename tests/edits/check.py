@@ -13,14 +13,15 @@ UNFIT = [
     (r"expected type `\S*Need-\S+?`, but this has type `\S*Need-", "answers in another order than the needs"),
     (r"arguments? (?:too many|too few)|too many arguments|too few arguments", "another number of needs than answers"),
     (r"does not cover|not covered", "a form that is not covered"),
-    (r"was not admitted", "only what follows from another error"),
 ]
+# What only follows from another error: a caller whose callee is not proved.
+FOLLOWS = "was not admitted"
 
 
 def first_error(log):
-    """The first error, or where the prover itself made the proof, the first fact that it says is not proved; with the lines that belong to it."""
-    found = re.search(r"^\S+: error: .*(?:\n {2}.*)*|^note: .*it is not proved that .*|^fn \S+: no proof: .*", log, re.M)
-    return found.group(0) if found else None
+    """The first error by itself, with the lines that belong to it; or, of a function whose proof the prover makes, what it says is not proved."""
+    found = re.finditer(r"^\S+: error: .*(?:\n {2}.*)*|^note: .*it is not proved that .*|^fn \S+: no proof: .*", log, re.M)
+    return next((error.group(0) for error in found if FOLLOWS not in error.group(0)), None)
 
 
 def fault_of(log):

@@ -2,27 +2,11 @@
 // measured by putting it into an output that is too short. The functions are pub for the writers. A place is bounded so that no sum wraps.
 ghost use mathlib.Core.Path.{_≡_};
 ghost use Prim.Native.Nat.{_+_, _^_, _≤_, _<_};
-ghost use lib.ListN.{length};
 ghost use Rattle.lists.specs.Joined.{joined};
-ghost use Rattle.printer.specs.Written.{placed, Put};
-ghost use Rattle.lines.specs.Line.{wordText, partText};
+ghost use Rattle.printer.specs.Written.{Put};
+ghost use Rattle.lines.specs.Line.{partText};
 use money::Cents;
-
-// The fixed byte strings of the texts that are written.
-pub enum Word {
-    Award,
-    Buy,
-    Refused,
-    Seg,
-    Space,
-    Without,
-    WithoutNone,
-    Close,
-    CloseLine,
-    CloseRow,
-    Demand,
-    Bid,
-}
+use words::Word;
 
 // A part of a line: a word, or a word and right after it a number or a price.
 pub enum Part {
@@ -30,29 +14,6 @@ pub enum Part {
     Fixed(Word),
     Number(Word, u64),
     Price(Word, Cents),
-}
-
-// A byte string cannot be returned, so each is put where it is named.
-fn put_fixed(out: &mut [u8], at: usize, word: Word) -> usize
-    requires { ⌜ at < 2 ^ 61 ⌝ }
-    ensures { λ r. ⌜ r ≡ at + length (wordText word) ⌝ }
-    ensures { λ r. ⌜ now (out .exit) ≡ placed (now (out .entry)) at (wordText word) ⌝ }
-    ensures { λ r. ⌜ r ≤ at + 32 ⌝ }
-{
-    match word {
-        Word::Award => printer::put_word(out, at, b"(award "),
-        Word::Buy => printer::put_word(out, at, b"(buy "),
-        Word::Refused => printer::put_word(out, at, b"(refused "),
-        Word::Seg => printer::put_word(out, at, b" (seg "),
-        Word::Space => printer::put_word(out, at, b" "),
-        Word::Without => printer::put_word(out, at, b" (without "),
-        Word::WithoutNone => printer::put_word(out, at, b" (without none"),
-        Word::Close => printer::put_word(out, at, b")"),
-        Word::CloseLine => printer::put_word(out, at, b")\n"),
-        Word::CloseRow => printer::put_word(out, at, b"))\n"),
-        Word::Demand => printer::put_word(out, at, b"(demand "),
-        Word::Bid => printer::put_word(out, at, b"(bid "),
-    }
 }
 
 // A part of a line from `at` on, where it fits. Answers the place after it all the same.
@@ -63,13 +24,13 @@ pub fn put_part(out: &mut [u8], at: usize, part: Part) -> usize
 {
     match part {
         Part::Nothing => at,
-        Part::Fixed(word) => put_fixed(out, at, word),
+        Part::Fixed(word) => words::put(out, at, word),
         Part::Number(word, n) => {
-            let number = put_fixed(out, at, word);
+            let number = words::put(out, at, word);
             printer::put_number(out, number, n)
         }
         Part::Price(word, cents) => {
-            let price = put_fixed(out, at, word);
+            let price = words::put(out, at, word);
             printer::put_cents(out, price, cents)
         }
     }

@@ -10,8 +10,8 @@ use award::Award;
 use award::Row;
 use award::Total;
 use lines::Part;
-use lines::Word;
 use refusal::Verdict;
+use words::Word;
 
 fn without_part(total: Total) -> Part
     ensures { λ r. ⌜ partText r ≡ ascii " (without " ++ totalText total ⌝ }

@@ -12,7 +12,7 @@ use book::Bid;
 use book::Book;
 use book::Segment;
 use lines::Part;
-use lines::Word;
+use words::Word;
 
 fn segment_line(s: Segment) -> [Part; 8]
     ensures { λ r. ⌜ joined partText r ≡ segmentText s ⌝ }

@@ -11,15 +11,15 @@ nothing c = rw (c .enum-told .given .1) (put-none _ _, omega arith)
 fixed : tie.Need-returns-2
 fixed c =
     let w = c .before .before in
-    rw (w .before .before .before .part .given .1) (put-placed _ _ _ _ _ _ (w .put-fixed .ensures), omega (arith, w .put-fixed .ensures .1 .1))
+    rw (w .before .before .before .part .given .1) (put-placed _ _ _ _ _ _ (w .put .ensures), omega (arith, w .put .ensures .1 .1))
 
 number : tie.Need-returns-3
 number c =
     let n = c .before .before in
     let w = n .before .before .before .before in
     rw (w .before .before .before .part2 .given .1) (
-      put-after _ _ _ _ _ _ _ _ _ (w .put-fixed2 .kept .0) (w .put-fixed2 .ensures) (n .put-number .ensures .0),
-      omega (arith, n .put-number .ensures .1, w .put-fixed2 .ensures .1 .1),
+      put-after _ _ _ _ _ _ _ _ _ (w .put2 .kept .0) (w .put2 .ensures) (n .put-number .ensures .0),
+      omega (arith, n .put-number .ensures .1, w .put2 .ensures .1 .1),
     )
 
 price : tie.Need-returns-4
@@ -27,8 +27,8 @@ price c =
     let n = c .before .before in
     let w = n .before .before .before .before in
     rw (w .before .before .before .part3 .given .1) (
-      put-after _ _ _ _ _ _ _ _ _ (w .put-fixed3 .kept .0) (w .put-fixed3 .ensures) (n .put-cents .ensures .0),
-      omega (arith, n .put-cents .ensures .1, w .put-fixed3 .ensures .1 .1),
+      put-after _ _ _ _ _ _ _ _ _ (w .put3 .kept .0) (w .put3 .ensures) (n .put-cents .ensures .0),
+      omega (arith, n .put-cents .ensures .1, w .put3 .ensures .1 .1),
     )
 
 pub put-part-spec : {M : Type 1} → statement M

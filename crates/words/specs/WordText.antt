@@ -1,0 +1,20 @@
+-- The words as text: document 01, sections "The bid book" and "The sheet".
+use Prim.Native.Nat.{ℕ}
+use mathlib.Core.List.{List}
+use Rattle.forms.specs.Bytes.{ascii}
+use Rattle.words.specs.declared.Word.{Word}
+use Rattle.words.specs.declared.Word.the-variants.{Award, Buy, Refused, Seg, Space, Without, WithoutNone, Close, CloseLine, CloseRow, Demand, Bid}
+
+abbrev pub wordText : Word → List ℕ
+wordText Award = ascii "(award "
+wordText Buy = ascii "(buy "
+wordText Refused = ascii "(refused "
+wordText Seg = ascii " (seg "
+wordText Space = ascii " "
+wordText Without = ascii " (without "
+wordText WithoutNone = ascii " (without none"
+wordText Close = ascii ")"
+wordText CloseLine = ascii ")\n"
+wordText CloseRow = ascii "))\n"
+wordText Demand = ascii "(demand "
+wordText Bid = ascii "(bid "
