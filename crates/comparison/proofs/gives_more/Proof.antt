@@ -4,10 +4,10 @@ use mathlib.Core.Path.{_≡_, refl, sym, _∙_}
 use borrow.Author.Needs.{needs}
 use lib.ListN.{length, take}
 use Rattle.divisions.specs.Award.{givesMore}
-use Rattle.filling.specs.Records.{blanksIn}
-use Rattle.search.proofs.Comparing.{moreFrom, more-here, less-here, same-here, no-more}
-use Rattle.search.proofs.compare.gives_more.Statement.{statement}
-use Rattle.search.proofs.compare.gives_more.Tie as tie
+use Rattle.comparison.specs.Records.{blanksIn}
+use Rattle.comparison.proofs.Comparing.{moreFrom, more-here, less-here, same-here, no-more}
+use Rattle.comparison.proofs.gives_more.Statement.{statement}
+use Rattle.comparison.proofs.gives_more.Tie as tie
 
 abbrev Inv-loop : tie.InvT-loop
 Inv-loop n a b i₀ i = (i ≤ n) × (moreFrom i n a b ≡ givesMore (take n (blanksIn a)) (take n (blanksIn b)))

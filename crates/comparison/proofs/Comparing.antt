@@ -13,8 +13,8 @@ use Rattle.lists.proofs.Slices.{slice-next, slice-done}
 use Rattle.money.specs.declared.Blanks.{Blanks}
 use Rattle.divisions.specs.Award.{Priced, givesMore, better, pick}
 use Rattle.divisions.proofs.Signed.{less-not, at-most-either}
-use Rattle.filling.specs.declared.Best.{Best}
-use Rattle.filling.specs.Records.{blanksIn, divisionIn, found}
+use Rattle.comparison.specs.declared.Best.{Best}
+use Rattle.comparison.specs.Records.{blanksIn, divisionIn, found}
 
 abbrev pub noBlanks : Blanks
 noBlanks = record { 0 = 0 }

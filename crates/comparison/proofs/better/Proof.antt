@@ -1,10 +1,10 @@
 use mathlib.Core.Path.{sym, _∙_}
 use borrow.Author.Needs.{needs}
 use Rattle.lists.proofs.Tests.{passed, failed}
-use Rattle.filling.specs.Records.{divisionIn}
-use Rattle.search.proofs.Comparing.{dearer, cheaper, as-cheap}
-use Rattle.search.proofs.compare.better.Statement.{statement}
-use Rattle.search.proofs.compare.better.Tie as tie
+use Rattle.comparison.specs.Records.{divisionIn}
+use Rattle.comparison.proofs.Comparing.{dearer, cheaper, as-cheap}
+use Rattle.comparison.proofs.better.Statement.{statement}
+use Rattle.comparison.proofs.better.Tie as tie
 
 at-most-requires : tie.Need-at-most-requires
 at-most-requires c κs = search needs

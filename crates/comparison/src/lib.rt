@@ -1,12 +1,20 @@
-// Two divisions compared, as the award is fixed: by cost, and among equal costs by who gets more first.
+// Divisions as records, and compared as the award is fixed: by cost, and among equal costs by who gets more
+// first.
 ghost use mathlib.Core.Path.{_≡_};
 ghost use mathlib.Core.Bool.{true};
 ghost use Prim.Native.Nat.{_≤_};
 ghost use lib.ListN.{take};
 ghost use Rattle.divisions.specs.Award.{givesMore, better, pick};
-ghost use Rattle.filling.specs.Records.{blanksIn, divisionIn, found};
-use filling::Best;
+ghost use Rattle.comparison.specs.Records.{blanksIn, divisionIn, found};
 use money::Blanks;
+use money::Cents;
+
+// A division, if one was found: its cost, and a quantity for each bidder in book order.
+pub struct Best {
+    pub found: bool,
+    pub total: Cents,
+    pub quantities: [Blanks; 8],
+}
 
 // Whether a gives more than b to the first of n bidders at whom the two differ.
 fn gives_more(a: [Blanks; 8], b: [Blanks; 8], n: usize) -> bool
@@ -47,7 +55,7 @@ fn better(a: Best, b: Best, n: usize) -> bool
     gives_more(quantities, others, n)
 }
 
-// The better of the division kept so far, if there is one, and a new one.
+// The better of the division kept so far, if there is one, and a new one. It is pub for the search.
 pub fn pick(kept: Best, new: Best, n: usize) -> Best
     requires { ⌜ n ≤ 8 ⌝ }
     requires { ⌜ new .found ≡ true ⌝ }

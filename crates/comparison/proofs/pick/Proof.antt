@@ -1,9 +1,9 @@
 use borrow.Author.Needs.{needs}
 use borrow.Author.Tests.{not-true, not-false}
 use Rattle.lists.proofs.Tests.{passed, failed}
-use Rattle.search.proofs.Comparing.{pick-first, pick-new, pick-best}
-use Rattle.search.proofs.compare.pick.Statement.{statement}
-use Rattle.search.proofs.compare.pick.Tie as tie
+use Rattle.comparison.proofs.Comparing.{pick-first, pick-new, pick-best}
+use Rattle.comparison.proofs.pick.Statement.{statement}
+use Rattle.comparison.proofs.pick.Tie as tie
 
 returns : tie.Need-returns
 returns c =
