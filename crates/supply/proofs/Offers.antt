@@ -1,14 +1,12 @@
 -- A supply function segment by segment, and what an offer tells. Assumes nothing.
-use Prim.Native.Nat.{ℕ, zero, suc, _*_, _^_, _≤_, _<_}
+use Prim.Native.Nat.{ℕ, zero, suc, _≤_, _<_}
 use native.Mathlib.Nat.{le-of-suc-le-suc, not-suc-le-zero}
 use native.Mathlib.Omega.{arith}
 use mathlib.Core.Bool.{Bool, true, false, cond, false≢true}
 use mathlib.Core.List.{List, [], _∷_}
 use mathlib.Core.Path.{_≡_, refl, ap}
 use lib.IntN.{natAbs}
-use lib.ListN.{getD}
-use mir.Syntax.{w64}
-use mir.Val.{SFits}
+use lib.ListN.{length, getD}
 use Rattle.lists.specs.Every.{every}
 use Rattle.lists.proofs.Tests.{both-left, both-right}
 use Rattle.lists.proofs.Everywhere.{every-at}
@@ -17,7 +15,7 @@ use Rattle.money.specs.Price.{priceOf}
 use Rattle.book.specs.declared.Segment.{Segment}
 use Rattle.book.specs.Entries.{BidEntries}
 use Rattle.book.specs.Rules.{segmentInRange, priceOn}
-use Rattle.book.proofs.InRange.{InRange, in-range, within-high, mostBlanks, mostCents, price-small, price-fits}
+use Rattle.book.proofs.InRange.{InRange, in-range, within-high, mostBlanks, mostCents, price-small}
 use Rattle.supply.specs.declared.Offer.{Offer}
 use Rattle.supply.specs.declared.Offer.the-variants.{Price, NotOffered}
 use Rattle.supply.specs.Supply.{segment0, supplyOf, on, offers, priceAt, offerOf}
@@ -101,12 +99,18 @@ supply-small b r ranges e = go (on segment0 r) refl (λ f. offered-small (b .seg
     go true f later = nothing-small (b .segments) r f
     go false f later = small-past segment0 (b .segments) r f (later f)
 
--- what the price rule asks, at the segment that was found
-pub found-fits : (b : BidEntries) (r j : ℕ) → every segmentInRange (b .segments) ≡ true → FirstOn (supplyOf b) r j
-    → let s = getD (supplyOf b) j segment0 in (s .unit .0 * r < 2 ^ 63) × SFits w64 (priceOn s r)
-found-fits b r zero ranges f =
-    price-fits segment0 r (omega arith) (omega arith) (on-small segment0 r (f .here) (omega arith))
-found-fits b r (suc j) ranges f =
-    let s = getD (b .segments) j segment0 in
-    let range = in-range s (every-at segmentInRange (b .segments) j segment0 (le-of-suc-le-suc (f .there)) ranges) in
-    price-fits s r (range .unit-high) (range .fixed-size) (on-small s r (f .here) (range .end-high))
+-- What the price rule asks: a segment's parts have their limits, segment 0 with them, and so has a quantity that is on one.
+
+pub record Limits (s : Segment) : Type 0 where
+  pub end-high : s .end .0 ≤ mostBlanks
+  pub unit-high : s .unit .0 ≤ 1000000
+  pub fixed-size : natAbs (s .fixed .0) ≤ 1000000000000
+
+pub limits : (b : BidEntries) (j : ℕ) → every segmentInRange (b .segments) ≡ true → j < length (supplyOf b) → Limits (getD (supplyOf b) j segment0)
+limits b zero ranges h = record { end-high = omega arith; unit-high = omega arith; fixed-size = omega arith }
+limits b (suc j) ranges h =
+    let range = in-range _ (every-at segmentInRange (b .segments) j segment0 (le-of-suc-le-suc h) ranges) in
+    record { end-high = range .end-high; unit-high = range .unit-high; fixed-size = range .fixed-size }
+
+pub found-small : (b : BidEntries) (r j : ℕ) → every segmentInRange (b .segments) ≡ true → FirstOn (supplyOf b) r j → r ≤ mostBlanks
+found-small b r j ranges f = on-small _ r (f .here) (limits b j ranges (f .there) .end-high)

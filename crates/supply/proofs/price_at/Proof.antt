@@ -4,11 +4,12 @@ use native.Mathlib.Omega.{arith}
 use borrow.Author.Needs.{needs}
 use lib.IntN.{ℤ}
 use Rattle.book.specs.Entries.{bidEntries}
+use Rattle.book.proofs.InRange.{price-fits}
 use Rattle.supply.specs.declared.Offer.the-variants.{Price}
 use Rattle.supply.specs.Supply.{supplyOf, offerOf}
 use Rattle.supply.specs.Places.{FirstOn}
 use Rattle.supply.proofs.Numbers.{number-counted}
-use Rattle.supply.proofs.Offers.{offer-found, offer-nowhere, found-fits}
+use Rattle.supply.proofs.Offers.{offer-found, offer-nowhere, Limits, limits, found-small}
 use Rattle.supply.proofs.price_at.Statement.{statement}
 use Rattle.supply.proofs.price_at.Tie as tie
 
@@ -29,7 +30,9 @@ price-requires : tie.Need-price-requires
 price-requires c κs =
     let told = c .before .before .before in
     let s = told .before .before .before .before in
-    rw (c .before .before .segment-of .ensures .1) (found-fits (bidEntries (s .args .bid)) _ _ (s .pre .1) (first told))
+    let there = c .before .before .segment-of in
+    let range : Limits (there .result) = rw (there .ensures .1) (limits (bidEntries (s .args .bid)) _ (s .pre .1) (there .ensures .0)) in
+    price-fits (there .result) _ (range .unit-high) (range .fixed-size) (found-small (bidEntries (s .args .bid)) _ _ (s .pre .1) (first told))
 
 returns-2 : tie.Need-returns-2
 returns-2 c =

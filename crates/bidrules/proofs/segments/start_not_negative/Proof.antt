@@ -1,4 +1,6 @@
+-- The price at the start fits, by rule 5, and 0 is compared with it.
 use mathlib.Core.Path.{ap, _∙_}
+use native.Mathlib.Omega.{arith}
 use borrow.Author.Needs.{needs}
 use lib.IntN.{pos}
 use lib.Signed.{leZ}
@@ -11,14 +13,11 @@ price-requires : tie.Need-price-requires
 price-requires c κs =
     let a = c .before .before .before in
     let range = in-range (a .args .s) (a .pre) in
-    price-fits (a .args .s) (a .args .s .start .0) (range .unit-high) (range .fixed-size) (range .start-high)
-
-at-most-requires : tie.Need-at-most-requires
-at-most-requires c κs = search needs
+    price-fits (a .args .s) _ (range .unit-high) (range .fixed-size) (omega (arith, range .start-high, range .end-high))
 
 returns : tie.Need-returns
 unfolding startNotNegative
 returns c = c .at-most .ensures ∙ ap (leZ (pos 0)) (c .before .price .ensures)
 
 pub start-not-negative-spec : {M : Type 1} → statement M
-start-not-negative-spec = tie.close (tie.spec price-requires at-most-requires returns)
+start-not-negative-spec = tie.close (tie.spec price-requires (λ c κs. search needs) returns)
