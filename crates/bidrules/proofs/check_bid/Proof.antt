@@ -1,3 +1,4 @@
+-- The tests stand in the order of the rules: each that is passed leaves the next to decide.
 use Prim.Native.Nat.{_≤_}
 use mathlib.Core.Bool.{true}
 use mathlib.Core.List.{List, [], _∷_}
@@ -43,15 +44,9 @@ unfolding every
 nothing-asked [] = refl
 nothing-asked (s ∷ ss) = nothing-asked ss
 
-within-requires : tie.Need-within-requires
-within-requires c κs = search needs
-
 returns : tie.Need-returns
 unfolding bidVerdict
 returns c = simp (failed (c .before .within .ensures) (c .if1 .taken))
-
-within-requires-2 : tie.Need-within-requires-2
-within-requires-2 c κs = search needs
 
 returns-2 : tie.Need-returns-2
 unfolding bidVerdict bidInRange
@@ -71,9 +66,6 @@ unfolding bidVerdict
 returns-4 c =
     let e3 = c .before .before in
     simp (count-kept (e3 .before .before .before .before), range-kept e3, le-ltb _ _ (c .if4 .taken))
-
-segments-rise-requires : tie.Need-segments-rise-requires
-segments-rise-requires c κs = few (c .before .before .before .before .before .before)
 
 returns-5 : tie.Need-returns-5
 unfolding bidVerdict
@@ -113,14 +105,14 @@ pub check-bid-spec : {M : Type 1} → statement M
 check-bid-spec =
     tie.close
     (tie.spec
-    within-requires
+    (λ c κs. search needs)
     returns
-    within-requires-2
+    (λ c κs. search needs)
     returns-2
     all-pass-requires
     returns-3
     returns-4
-    segments-rise-requires
+    (λ c κs. few (c .before .before .before .before .before .before))
     returns-5
     all-pass-requires-2
     returns-6

@@ -1,3 +1,4 @@
+-- The costs are compared both ways, and where neither is larger the quantities decide.
 use mathlib.Core.Path.{sym, _∙_}
 use borrow.Author.Needs.{needs}
 use Rattle.lists.proofs.Tests.{passed, failed}
@@ -6,24 +7,15 @@ use Rattle.comparison.proofs.Comparing.{dearer, cheaper, as-cheap}
 use Rattle.comparison.proofs.better.Statement.{statement}
 use Rattle.comparison.proofs.better.Tie as tie
 
-at-most-requires : tie.Need-at-most-requires
-at-most-requires c κs = search needs
-
 returns : tie.Need-returns
 returns c =
     let a = c .before .before .before .before .args in
     sym (dearer (divisionIn (a .n) (a .a)) (divisionIn (a .n) (a .b)) (failed (c .before .at-most .ensures) (c .if1 .taken)))
 
-at-most-requires-2 : tie.Need-at-most-requires-2
-at-most-requires-2 c κs = search needs
-
 returns-2 : tie.Need-returns-2
 returns-2 c =
     let a = c .before .before .before .before .before .before .args in
     sym (cheaper (divisionIn (a .n) (a .a)) (divisionIn (a .n) (a .b)) (failed (c .before .at-most2 .ensures) (c .if2 .taken)))
-
-gives-more-requires : tie.Need-gives-more-requires
-gives-more-requires c κs = search needs
 
 returns-3 : tie.Need-returns-3
 returns-3 c =
@@ -35,4 +27,4 @@ returns-3 c =
     c .gives-more .ensures ∙ sym (as-cheap (divisionIn (a .n) (a .a)) (divisionIn (a .n) (a .b)) at-most at-least)
 
 pub better-spec : {M : Type 1} → statement M
-better-spec = tie.close (tie.spec at-most-requires returns at-most-requires-2 returns-2 gives-more-requires returns-3)
+better-spec = tie.close (tie.spec (λ c κs. search needs) returns (λ c κs. search needs) returns-2 (λ c κs. search needs) returns-3)

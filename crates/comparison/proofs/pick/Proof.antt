@@ -1,3 +1,4 @@
+-- The new division is taken where none was kept, or where it is better than the one kept.
 use borrow.Author.Needs.{needs}
 use borrow.Author.Tests.{not-true, not-false}
 use Rattle.lists.proofs.Tests.{passed, failed}
@@ -10,9 +11,6 @@ returns c =
     let s = c .before .before in
     let a = s .args in
     pick-first (a .n) (a .kept) (a .new) (s .pre .1) (not-true (a .kept .found) (c .if1 .taken))
-
-better-requires : tie.Need-better-requires
-better-requires c κs = search needs
 
 returns-2 : tie.Need-returns-2
 returns-2 c =
@@ -29,4 +27,4 @@ returns-3 c =
     pick-new (a .n) (a .kept) (a .new) (s .pre .1) (not-false (a .kept .found) (e .if1 .left)) (passed (c .before .better .ensures) (c .if2 .left))
 
 pub pick-spec : {M : Type 1} → statement M
-pick-spec = tie.close (tie.spec returns better-requires returns-2 returns-3)
+pick-spec = tie.close (tie.spec returns (λ c κs. search needs) returns-2 returns-3)

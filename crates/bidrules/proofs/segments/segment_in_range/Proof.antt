@@ -1,3 +1,4 @@
+-- Each number is tested in turn; all of them decide.
 use mathlib.Core.Bool.{true}
 use mathlib.Core.Path.{_≡_}
 use borrow.Author.Needs.{needs}
@@ -16,22 +17,13 @@ end-kept c = passed (c .before .within2 .ensures) (c .if2 .left)
 unit-kept : (c : tie.Else3) → within 0 1000000 (c .before .before .before .before .before .before .args .s .unit .0) ≡ true
 unit-kept c = passed (c .before .within3 .ensures) (c .if3 .left)
 
-within-requires : tie.Need-within-requires
-within-requires c κs = search needs
-
 returns : tie.Need-returns
 unfolding segmentInRange
 returns c = simp (failed (c .before .within .ensures) (c .if1 .taken))
 
-within-requires-2 : tie.Need-within-requires-2
-within-requires-2 c κs = search needs
-
 returns-2 : tie.Need-returns-2
 unfolding segmentInRange
 returns-2 c = simp (start-kept (c .before .before), failed (c .before .within2 .ensures) (c .if2 .taken))
-
-within-requires-3 : tie.Need-within-requires-3
-within-requires-3 c κs = search needs
 
 returns-3 : tie.Need-returns-3
 unfolding segmentInRange
@@ -39,18 +31,12 @@ returns-3 c =
     let e2 = c .before .before in
     simp (start-kept (e2 .before .before), end-kept e2, failed (c .before .within3 .ensures) (c .if3 .taken))
 
-at-most-requires : tie.Need-at-most-requires
-at-most-requires c κs = search needs
-
 returns-4 : tie.Need-returns-4
 unfolding segmentInRange
 returns-4 c =
     let e3 = c .before .before .before in
     let e2 = e3 .before .before in
     simp (start-kept (e2 .before .before), end-kept e2, unit-kept e3, failed (c .before .at-most .ensures) (c .if4 .taken))
-
-at-most-requires-2 : tie.Need-at-most-requires-2
-at-most-requires-2 c κs = search needs
 
 returns-5 : tie.Need-returns-5
 unfolding segmentInRange
@@ -64,13 +50,13 @@ pub segment-in-range-spec : {M : Type 1} → statement M
 segment-in-range-spec =
     tie.close
     (tie.spec
-    within-requires
+    (λ c κs. search needs)
     returns
-    within-requires-2
+    (λ c κs. search needs)
     returns-2
-    within-requires-3
+    (λ c κs. search needs)
     returns-3
-    at-most-requires
+    (λ c κs. search needs)
     returns-4
-    at-most-requires-2
+    (λ c κs. search needs)
     returns-5)
