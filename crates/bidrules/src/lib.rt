@@ -3,14 +3,14 @@ ghost use mathlib.Core.Path.{_≡_};
 ghost use Rattle.book.specs.Entries.{bidEntries};
 ghost use Rattle.book.specs.Rules.{within, bidVerdict};
 
-// The rules, one to a module. The modules are private: what is pub in them serves this crate alone.
+// The rules for segments. The modules are private: what is pub in them serves this crate alone.
 mod order;
-mod prices;
-mod ranges;
+mod segments;
 
 use book::Bid;
 use refusal::Rule;
 use refusal::Verdict;
+use segments::Test;
 
 // From low to high, both counted. It is pub for the check of a book, whose demand has a range too.
 pub fn within(low: u64, high: u64, n: u64) -> bool
@@ -33,7 +33,7 @@ pub fn check_bid(bid: Bid, line: u64, before: u64) -> Verdict
     if !within(1, 9_999, bid.bidder) {
         return Verdict::Refused(Rule::Range, line);
     }
-    if !ranges::segments_in_range(bid) {
+    if !segments::all_pass(Test::InRange, bid) {
         return Verdict::Refused(Rule::Range, line);
     }
     if bid.bidder <= before {
@@ -42,7 +42,7 @@ pub fn check_bid(bid: Bid, line: u64, before: u64) -> Verdict
     if !order::segments_rise(bid) {
         return Verdict::Refused(Rule::SegmentOrder, line);
     }
-    if !prices::starts_not_negative(bid) {
+    if !segments::all_pass(Test::StartNotNegative, bid) {
         return Verdict::Refused(Rule::NegativePrice, line);
     }
     Verdict::Accepted

@@ -14,8 +14,8 @@ use Rattle.book.specs.Entries.{BookEntries, bookEntries}
 use Rattle.book.specs.Rules.{bookVerdict}
 use Rattle.supply.specs.Supply.{suppliesOf}
 use Rattle.divisions.specs.Award.{Priced, awardOf}
-use Rattle.filling.specs.declared.Best.{Best}
-use Rattle.filling.specs.Records.{blanksIn, divisionIn, found}
+use Rattle.comparison.specs.declared.Best.{Best}
+use Rattle.comparison.specs.Records.{blanksIn, divisionIn, found}
 use Rattle.award.specs.declared.Total.the-variants.{Amount, Nothing}
 use Rattle.award.specs.declared.Row.{Row}
 use Rattle.award.specs.Award.{noRow}

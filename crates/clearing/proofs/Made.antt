@@ -14,7 +14,7 @@ use Rattle.book.specs.declared.Book.{Book}
 use Rattle.book.specs.Entries.{BidEntries, BookEntries, bidEntries, bookEntries}
 use Rattle.book.proofs.Records.{noBid}
 use Rattle.book.proofs.Bids.{length-entries, entry-at}
-use Rattle.filling.specs.Records.{blanksIn}
+use Rattle.comparison.specs.Records.{blanksIn}
 use Rattle.award.specs.declared.Row.{Row}
 use Rattle.award.specs.Award.{noRow, rowOf}
 use Rattle.clearing.specs.Clearing.{totalWithout, rowsFrom}

@@ -6,7 +6,7 @@ ghost use Rattle.lists.specs.Padded.{padded};
 ghost use Rattle.refusal.specs.declared.Verdict.the-variants.{Accepted};
 ghost use Rattle.book.specs.Entries.{bookEntries};
 ghost use Rattle.book.specs.Rules.{bookVerdict};
-ghost use Rattle.filling.specs.Records.{blanksIn};
+ghost use Rattle.comparison.specs.Records.{blanksIn};
 ghost use Rattle.award.specs.Award.{noRow};
 ghost use Rattle.clearing.specs.Clearing.{bookWithout, totalWithout, rowsFrom, refusedClearing, clearOf};
 use award::Award;

@@ -21,7 +21,8 @@ use Rattle.book.proofs.InRange.{mostCents}
 use Rattle.divisions.specs.Award.{Priced}
 use Rattle.choices.proofs.Choice.{starts, ends, fits, width, share, shares, placed, costWith, filled}
 use Rattle.choices.proofs.Sound.{SoundSegment}
-use Rattle.filling.specs.Records.{firstRows, blanksIn}
+use Rattle.comparison.specs.Records.{blanksIn}
+use Rattle.filling.specs.Records.{firstRows}
 use Rattle.filling.proofs.Rows.{rows-none, rows-next}
 use Rattle.filling.proofs.Prices.{price-small}
 

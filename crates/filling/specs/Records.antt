@@ -1,18 +1,13 @@
--- For the contracts of this crate, of `search` and of `clearing`: what the records of a choice and of a division hold.
+-- For the contracts of this crate and of `search`: what the record of a choice holds.
 use Prim.Native.Nat.{ℕ, zero, suc, _+_, _≤_, _<_}
-use mathlib.Core.Bool.{cond}
-use mathlib.Core.List.{List, [], _∷_, map}
-use mathlib.Core.Option.{Option, some, none}
+use mathlib.Core.List.{List, [], _∷_}
 use lib.IntN.{ℤ, pos}
-use lib.ListN.{getD, take}
+use lib.ListN.{getD}
 use Rattle.lists.specs.All.{All}
-use Rattle.money.specs.declared.Blanks.{Blanks}
 use Rattle.book.specs.declared.Segment.{Segment}
-use Rattle.divisions.specs.Award.{Priced}
 use Rattle.choices.proofs.Choice.{share}
 use Rattle.choices.proofs.Sound.{SoundSegment}
 use Rattle.filling.specs.declared.Choice.{Choice}
-use Rattle.filling.specs.declared.Best.{Best}
 
 -- the first n numbers of a column, added up
 unfoldable pub sumOf : List ℕ → ℕ → ℕ
@@ -61,15 +56,3 @@ chosen c = rows (c .starts) (c .ends) (c .units) (c .fixed) (c .count)
 
 abbrev pub Sound : Choice → Type 0
 Sound c = SoundRows (c .starts) (c .ends) (c .units) (c .fixed) (c .count)
-
--- quantities as numbers
-abbrev pub blanksIn : List Blanks → List ℕ
-blanksIn quantities = map (λ (b : Blanks). b .0) quantities
-
--- the division of n bidders that a record holds
-abbrev pub divisionIn : ℕ → Best → Priced
-divisionIn n b = record { cost = b .total .0; quantities = take n (blanksIn (b .quantities)) }
-
--- if it holds one
-abbrev pub found : ℕ → Best → Option Priced
-found n b = cond (b .found) (some (divisionIn n b)) none

@@ -7,8 +7,10 @@ ghost use lib.Dec.{leb};
 ghost use lib.IntN.{ℤ};
 ghost use Rattle.choices.proofs.Choice.{fits, cheaper, filled};
 ghost use Rattle.choices.proofs.Sound.{SoundSegment};
-ghost use Rattle.filling.specs.Records.{sumOf, Small, row, rows, SoundRows, Ranges, shareAt, divisionIn};
+ghost use Rattle.comparison.specs.Records.{divisionIn};
+ghost use Rattle.filling.specs.Records.{sumOf, Small, row, rows, SoundRows, Ranges, shareAt};
 use book::Segment;
+use comparison::Best;
 use money::Blanks;
 use money::Cents;
 use money::CentsPerBlank;
@@ -22,13 +24,6 @@ pub struct Choice {
     pub ends: [u64; 8],
     pub units: [u64; 8],
     pub fixed: [i64; 8],
-}
-
-// A division, if one was found: its cost, and a quantity for each bidder in book order.
-pub struct Best {
-    pub found: bool,
-    pub total: Cents,
-    pub quantities: [Blanks; 8],
 }
 
 // The first n numbers of a column, added up afresh where a choice is tested.

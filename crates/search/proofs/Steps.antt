@@ -18,9 +18,10 @@ use Rattle.supply.specs.Supply.{segment0, supplyOf, suppliesOf}
 use Rattle.divisions.specs.Award.{Priced, pick}
 use Rattle.choices.proofs.Choice.{fits, filled}
 use Rattle.choices.proofs.Search.{each, leaf, search, searched}
-use Rattle.filling.specs.declared.Best.{Best}
+use Rattle.comparison.specs.declared.Best.{Best}
+use Rattle.comparison.specs.Records.{found}
 use Rattle.filling.specs.declared.Choice.{Choice}
-use Rattle.filling.specs.Records.{row, firstRows, SoundRows, chosen, found}
+use Rattle.filling.specs.Records.{row, firstRows, SoundRows, chosen}
 use Rattle.filling.proofs.Rows.{rows-none}
 
 -- A choice: none yet, and one with a segment more.

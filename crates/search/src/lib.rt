@@ -10,16 +10,13 @@ ghost use Rattle.supply.specs.Supply.{supplyOf, suppliesOf};
 ghost use Rattle.divisions.specs.Award.{awardOf};
 ghost use Rattle.choices.proofs.Search.{leaf, search};
 ghost use Rattle.choices.proofs.Sound.{SoundSegment};
-ghost use Rattle.filling.specs.Records.{rows, SoundRows, chosen, Sound, found};
+ghost use Rattle.comparison.specs.Records.{found};
+ghost use Rattle.filling.specs.Records.{rows, SoundRows, chosen, Sound};
 ghost use Rattle.search.specs.Searchable.{Searchable};
-
-// Divisions compared. The module is private: what is pub in it serves this crate alone.
-mod compare;
-
 use book::Bid;
 use book::Book;
 use book::Segment;
-use filling::Best;
+use comparison::Best;
 use filling::Choice;
 use money::Blanks;
 use money::Cents;
@@ -41,7 +38,7 @@ fn leaf<'a>(
         return best;
     }
     let new = filling::fill(starts, ends, units, fixed, n, demand);
-    compare::pick(best, new, n)
+    comparison::pick(best, new, n)
 }
 
 // The choice with a segment for the next bidder.

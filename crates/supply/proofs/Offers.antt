@@ -1,66 +1,41 @@
 -- A supply function segment by segment, and what an offer tells. Assumes nothing.
-use Prim.Native.Nat.{ℕ, _+_, _≤_, _<_}
+use Prim.Native.Nat.{ℕ, zero, suc, _≤_, _<_}
+use native.Mathlib.Nat.{le-of-suc-le-suc, not-suc-le-zero}
 use native.Mathlib.Omega.{arith}
 use mathlib.Core.Bool.{Bool, true, false, cond, false≢true}
 use mathlib.Core.List.{List, [], _∷_}
-use mathlib.Core.Path.{_≡_, refl, ap, _∙_}
-use borrow.Author.Tests.{lt-leb}
-use lib.Dec.{leb·zero}
+use mathlib.Core.Path.{_≡_, refl, ap}
 use lib.IntN.{natAbs}
 use lib.ListN.{length, getD}
-use lib.Seq.{slice}
 use Rattle.lists.specs.Every.{every}
 use Rattle.lists.proofs.Tests.{both-left, both-right}
-use Rattle.lists.proofs.Slices.{slice-next, slice-done}
+use Rattle.lists.proofs.Everywhere.{every-at}
 use Rattle.money.specs.declared.Cents.{Cents}
 use Rattle.money.specs.Price.{priceOf}
 use Rattle.book.specs.declared.Segment.{Segment}
 use Rattle.book.specs.Entries.{BidEntries}
 use Rattle.book.specs.Rules.{segmentInRange, priceOn}
-use Rattle.book.proofs.Records.{noSegment}
 use Rattle.book.proofs.InRange.{InRange, in-range, within-high, mostBlanks, mostCents, price-small}
 use Rattle.supply.specs.declared.Offer.{Offer}
 use Rattle.supply.specs.declared.Offer.the-variants.{Price, NotOffered}
 use Rattle.supply.specs.Supply.{segment0, supplyOf, on, offers, priceAt, offerOf}
+use Rattle.supply.specs.Places.{FirstOn}
+use Rattle.supply.proofs.Places.{past-first}
 
 -- the price on a segment, as an offer
 abbrev pub priced : Segment → ℕ → Offer
 priced s r = Price (record { 0 = priceOn s r })
 
-pub offer-here : (s : Segment) (ss : List Segment) (r : ℕ) → on s r ≡ true → offerOf (s ∷ ss) r ≡ priced s r
+-- the price is that on the segment that was found
+pub offer-found : (ss : List Segment) (r j : ℕ) → FirstOn ss r j → offerOf ss r ≡ priced (getD ss j segment0) r
 unfolding offerOf offers priceAt
-offer-here s ss r e = rw e
+offer-found [] r j f = absurd (not-suc-le-zero (f .there))
+offer-found (s ∷ ss) r zero f = rw (f .here)
+offer-found (s ∷ ss) r (suc j) f = rw (f .before 0 (omega arith)) (offer-found ss r j (past-first f))
 
-pub offer-past : (s : Segment) (ss : List Segment) (r : ℕ) → on s r ≡ false → offerOf (s ∷ ss) r ≡ offerOf ss r
-unfolding offerOf offers priceAt
-offer-past s ss r e = rw e
-
--- quantity 0 is on segment 0, and no other is
-pub nothing-offered : (ss : List Segment) → offerOf (segment0 ∷ ss) 0 ≡ priced segment0 0
-unfolding on
-nothing-offered ss = offer-here segment0 ss 0 refl
-
-pub past-nothing : (ss : List Segment) (r : ℕ) → 0 < r → offerOf (segment0 ∷ ss) r ≡ offerOf ss r
-unfolding on
-past-nothing ss r h = offer-past segment0 ss r (rw (leb·zero, lt-leb r 0 h))
-
--- along a loop
-module _ (r : ℕ) (ss : List Segment) (i n : ℕ) (more : i < n) (held : n ≤ length ss) where
-  abbrev here : Segment
-  here = getD ss i noSegment
-
-  unrolled : offerOf (slice i n ss) r ≡ offerOf (here ∷ slice (i + 1) n ss) r
-  unrolled = ap (λ (l : List Segment). offerOf l r) (slice-next ss i n noSegment more held)
-
-  pub offer-next : on here r ≡ false → offerOf (slice i n ss) r ≡ offerOf (slice (i + 1) n ss) r
-  offer-next e = unrolled ∙ offer-past here (slice (i + 1) n ss) r e
-
-  pub offer-stop : on here r ≡ true → offerOf (slice i n ss) r ≡ priced here r
-  offer-stop e = unrolled ∙ offer-here here (slice (i + 1) n ss) r e
-
-pub offer-done : (r : ℕ) (ss : List Segment) (i n : ℕ) → i ≤ n → n ≤ i → offerOf (slice i n ss) r ≡ NotOffered
-unfolding offerOf offers
-offer-done r ss i n h k = ap (λ (l : List Segment). offerOf l r) (slice-done ss i n h k)
+pub offer-nowhere : (ss : List Segment) (r : ℕ) → offers ss r ≡ false → offerOf ss r ≡ NotOffered
+unfolding offerOf
+offer-nowhere ss r e = rw e
 
 -- what an offer tells
 offer-cases : (t : Bool) (price : Cents) (o : Offer) → cond t (Price price) NotOffered ≡ o
@@ -123,3 +98,19 @@ supply-small b r ranges e = go (on segment0 r) refl (λ f. offered-small (b .seg
     go : (t : Bool) → on segment0 r ≡ t → (on segment0 r ≡ false → Small (b .segments) r) → Small (supplyOf b) r
     go true f later = nothing-small (b .segments) r f
     go false f later = small-past segment0 (b .segments) r f (later f)
+
+-- What the price rule asks: a segment's parts have their limits, segment 0 with them, and so has a quantity that is on one.
+
+pub record Limits (s : Segment) : Type 0 where
+  pub end-high : s .end .0 ≤ mostBlanks
+  pub unit-high : s .unit .0 ≤ 1000000
+  pub fixed-size : natAbs (s .fixed .0) ≤ 1000000000000
+
+pub limits : (b : BidEntries) (j : ℕ) → every segmentInRange (b .segments) ≡ true → j < length (supplyOf b) → Limits (getD (supplyOf b) j segment0)
+limits b zero ranges h = record { end-high = omega arith; unit-high = omega arith; fixed-size = omega arith }
+limits b (suc j) ranges h =
+    let range = in-range _ (every-at segmentInRange (b .segments) j segment0 (le-of-suc-le-suc h) ranges) in
+    record { end-high = range .end-high; unit-high = range .unit-high; fixed-size = range .fixed-size }
+
+pub found-small : (b : BidEntries) (r j : ℕ) → every segmentInRange (b .segments) ≡ true → FirstOn (supplyOf b) r j → r ≤ mostBlanks
+found-small b r j ranges f = on-small _ r (f .here) (limits b j ranges (f .there) .end-high)

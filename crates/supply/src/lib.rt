@@ -7,6 +7,7 @@ ghost use Rattle.lists.specs.Every.{every};
 ghost use Rattle.book.specs.Entries.{bidEntries};
 ghost use Rattle.book.specs.Rules.{segmentInRange};
 ghost use Rattle.supply.specs.Supply.{on, segment0, supplyOf, offerOf, segmentNumber};
+ghost use Rattle.supply.specs.Places.{FoundAt};
 use book::Bid;
 use book::Segment;
 use money::Blanks;
@@ -19,6 +20,12 @@ pub enum Offer {
     NotOffered,
 }
 
+// Where a quantity is in a supply function: on the segment with this number, or on none.
+enum Place {
+    On(usize),
+    Nowhere,
+}
+
 // From the start to the end, both counted.
 fn on_segment(s: Segment, quantity: Blanks) -> bool
     ensures { λ r. ⌜ r ≡ on s (quantity .0) ⌝ }
@@ -27,30 +34,6 @@ fn on_segment(s: Segment, quantity: Blanks) -> bool
         return false;
     }
     quantity.0 <= s.end.0
-}
-
-// The price of a quantity by a bid of an accepted book. It is pub for the crates that price splits
-// of such a book. There the record holds each segment that the bid counts, and each is in range, so
-// that every price fits.
-pub fn price_at(bid: Bid, quantity: Blanks) -> Offer
-    requires { ⌜ bid .count ≤ 6 ⌝ }
-    requires { ⌜ every segmentInRange (bidEntries bid .segments) ≡ true ⌝ }
-    ensures { λ r. ⌜ r ≡ offerOf (supplyOf (bidEntries bid)) (quantity .0) ⌝ }
-{
-    if quantity.0 == 0 {
-        return Offer::Price(Cents(0));
-    }
-    let mut i: usize = 0;
-    while i < bid.count {
-        let s = bid.segments[i];
-        if on_segment(s, quantity) {
-            let unit = s.unit;
-            let fixed = s.fixed;
-            return Offer::Price(money::price(unit, quantity, fixed));
-        }
-        i += 1;
-    }
-    Offer::NotOffered
 }
 
 // The segment of a bid's supply function with this number; segment 0 is nothing at price 0. The record
@@ -73,21 +56,48 @@ pub fn segment_of(bid: Bid, number: usize) -> Segment
     bid.segments[number - 1]
 }
 
+// The first segment of a bid's supply function, segment 0 with it, that a quantity is on.
+fn find(bid: Bid, quantity: Blanks) -> Place
+    requires { ⌜ bid .count ≤ 6 ⌝ }
+    ensures { λ r. ⌜ FoundAt (supplyOf (bidEntries bid)) (quantity .0) r ⌝ }
+{
+    let mut number: usize = 0;
+    while number <= bid.count {
+        let s = segment_of(bid, number);
+        if on_segment(s, quantity) {
+            return Place::On(number);
+        }
+        number += 1;
+    }
+    Place::Nowhere
+}
+
+// The price of a quantity by a bid of an accepted book. It is pub for the crates that price splits
+// of such a book. There the record holds each segment that the bid counts, and each is in range, so
+// that every price fits.
+pub fn price_at(bid: Bid, quantity: Blanks) -> Offer
+    requires { ⌜ bid .count ≤ 6 ⌝ }
+    requires { ⌜ every segmentInRange (bidEntries bid .segments) ≡ true ⌝ }
+    ensures { λ r. ⌜ r ≡ offerOf (supplyOf (bidEntries bid)) (quantity .0) ⌝ }
+{
+    let place = find(bid, quantity);
+    let Place::On(number) = place else {
+        return Offer::NotOffered;
+    };
+    let there = segment_of(bid, number);
+    let unit = there.unit;
+    let fixed = there.fixed;
+    Offer::Price(money::price(unit, quantity, fixed))
+}
+
 // The number of the segment that a quantity is on. It is pub for the rows of an award.
 pub fn segment_number(bid: Bid, quantity: Blanks) -> u64
     requires { ⌜ bid .count ≤ 6 ⌝ }
     ensures { λ r. ⌜ r ≡ segmentNumber (supplyOf (bidEntries bid)) (quantity .0) ⌝ }
 {
-    if quantity.0 == 0 {
+    let place = find(bid, quantity);
+    let Place::On(number) = place else {
         return 0;
-    }
-    let mut j: usize = 0;
-    while j < bid.count {
-        let s = bid.segments[j];
-        if on_segment(s, quantity) {
-            return j as u64 + 1;
-        }
-        j += 1;
-    }
-    0
+    };
+    number as u64
 }

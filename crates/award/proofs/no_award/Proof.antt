@@ -1,3 +1,4 @@
+-- Its row is the blank one, and all else is zero.
 use mathlib.Core.Path.{ap}
 use borrow.Author.Needs.{needs}
 use lib.IntN.{pos}
@@ -7,9 +8,6 @@ use Rattle.award.specs.declared.Award.{Award}
 use Rattle.award.proofs.no_award.Statement.{statement}
 use Rattle.award.proofs.no_award.Tie as tie
 
-no-row-requires : tie.Need-no-row-requires
-no-row-requires c κs = search needs
-
 abbrev blank : Row → Award
 blank row = record { demand = record { 0 = 0 }; total = record { 0 = pos 0 }; count = 0; rows = replicate 8 row }
 
@@ -17,4 +15,4 @@ returns : tie.Need-returns
 returns c = ap blank (c .no-row .ensures)
 
 pub no-award-spec : {M : Type 1} → statement M
-no-award-spec = tie.close (tie.spec no-row-requires returns)
+no-award-spec = tie.close (tie.spec (λ c κs. search needs) returns)

@@ -1,3 +1,4 @@
+-- It is the blank row, field by field.
 use mathlib.Core.Path.{refl}
 use Rattle.award.proofs.no_row.Statement.{statement}
 use Rattle.award.proofs.no_row.Tie as tie

@@ -1,18 +1,10 @@
+-- The price is that of the offer, and 0 where there is none, as the definition has it.
 use mathlib.Core.Path.{sym, _∙_}
 use borrow.Author.Needs.{needs}
 use Rattle.supply.proofs.Offers.{offered}
 use Rattle.award.proofs.Prices.{price-not-offered}
 use Rattle.award.proofs.price_of.Statement.{statement}
 use Rattle.award.proofs.price_of.Tie as tie
-
-price-at-requires : tie.Need-price-at-requires
-price-at-requires c κs = search needs
-
-enum-known-offer : tie.Need-enum-known-offer
-enum-known-offer c = search needs
-
-enum-told : tie.Need-enum-told
-enum-told c = search needs
 
 returns : tie.Need-returns
 returns c = price-not-offered _ _ (sym (c .before .before .price-at .ensures) ∙ c .enum-told .given .1)
@@ -23,4 +15,4 @@ returns-2 c =
     sym (offered _ _ (offer .0 .0) (sym (c .before .before .before .price-at .ensures) ∙ offer .1) .1)
 
 pub price-of-spec : {M : Type 1} → statement M
-price-of-spec = tie.close (tie.spec price-at-requires enum-known-offer enum-told returns returns-2)
+price-of-spec = tie.close (tie.spec (λ c κs. search needs) (λ c. search needs) (λ c. search needs) returns returns-2)

@@ -1,16 +1,8 @@
+-- Each field is what the function called for it gives.
 use borrow.Author.Needs.{needs}
 use Rattle.award.proofs.Rows.{row-is}
 use Rattle.award.proofs.row_of.Statement.{statement}
 use Rattle.award.proofs.row_of.Tie as tie
-
-segment-number-requires : tie.Need-segment-number-requires
-segment-number-requires c κs = search needs
-
-price-of-requires : tie.Need-price-of-requires
-price-of-requires c κs = search needs
-
-sample-requires : tie.Need-sample-requires
-sample-requires c κs = search needs
 
 returns : tie.Need-returns
 returns c =
@@ -18,4 +10,4 @@ returns c =
 
 pub row-of-spec : {M : Type 1} → statement M
 row-of-spec =
-    tie.close (tie.spec segment-number-requires price-of-requires sample-requires returns)
+    tie.close (tie.spec (λ c κs. search needs) (λ c κs. search needs) (λ c κs. search needs) returns)

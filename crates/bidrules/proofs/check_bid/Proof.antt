@@ -1,13 +1,18 @@
+-- The tests stand in the order of the rules: each that is passed leaves the next to decide.
 use Prim.Native.Nat.{_≤_}
 use mathlib.Core.Bool.{true}
-use mathlib.Core.Path.{_≡_}
+use mathlib.Core.List.{List, [], _∷_}
+use mathlib.Core.Path.{_≡_, refl}
 use borrow.Author.Needs.{needs}
 use borrow.Author.Tests.{lt-ltb, le-ltb}
 use Rattle.lists.specs.Every.{every}
 use Rattle.lists.proofs.Tests.{passed, failed}
+use Rattle.book.specs.declared.Segment.{Segment}
 use Rattle.book.specs.Entries.{bidEntries}
 use Rattle.book.specs.Rules.{within, segmentInRange, bidInRange, segmentsRise, bidVerdict}
 use Rattle.book.proofs.InRange.{within-high}
+use Rattle.bidrules.specs.declared.segments.Test.the-variants.{InRange}
+use Rattle.bidrules.specs.Tests.{askedOf}
 use Rattle.bidrules.proofs.check_bid.Statement.{statement}
 use Rattle.bidrules.proofs.check_bid.Tie as tie
 
@@ -23,7 +28,7 @@ bidder-kept c = passed (c .before .within2 .ensures) (c .if2 .left)
 
 segments-kept : (c : tie.Else3)
     → every segmentInRange (bidEntries (c .before .before .before .before .before .before .args .bid) .segments) ≡ true
-segments-kept c = passed (c .before .segments-in-range .ensures) (c .if3 .left)
+segments-kept c = passed (c .before .all-pass .ensures) (c .if3 .left)
 
 range-kept : (c : tie.Else3) → bidInRange (bidEntries (c .before .before .before .before .before .before .args .bid)) ≡ true
 unfolding bidInRange
@@ -33,37 +38,34 @@ rise-kept : (c : tie.Else5)
     → segmentsRise 0 (bidEntries (c .before .before .before .before .before .before .before .before .before .before .args .bid) .segments) ≡ true
 rise-kept c = passed (c .before .segments-rise .ensures) (c .if5 .left)
 
-within-requires : tie.Need-within-requires
-within-requires c κs = search needs
+-- rule 5 asks nothing of a segment before
+nothing-asked : (ss : List Segment) → every (askedOf InRange) ss ≡ true
+unfolding every
+nothing-asked [] = refl
+nothing-asked (s ∷ ss) = nothing-asked ss
 
 returns : tie.Need-returns
 unfolding bidVerdict
 returns c = simp (failed (c .before .within .ensures) (c .if1 .taken))
 
-within-requires-2 : tie.Need-within-requires-2
-within-requires-2 c κs = search needs
-
 returns-2 : tie.Need-returns-2
 unfolding bidVerdict bidInRange
 returns-2 c = simp (count-kept (c .before .before), failed (c .before .within2 .ensures) (c .if2 .taken))
 
-segments-in-range-requires : tie.Need-segments-in-range-requires
-segments-in-range-requires c κs = few (c .before .before)
+all-pass-requires : tie.Need-all-pass-requires
+all-pass-requires c κs = (few (c .before .before), nothing-asked _)
 
 returns-3 : tie.Need-returns-3
 unfolding bidVerdict bidInRange
 returns-3 c =
     let e2 = c .before .before in
-    simp (count-kept (e2 .before .before), bidder-kept e2, failed (c .before .segments-in-range .ensures) (c .if3 .taken))
+    simp (count-kept (e2 .before .before), bidder-kept e2, failed (c .before .all-pass .ensures) (c .if3 .taken))
 
 returns-4 : tie.Need-returns-4
 unfolding bidVerdict
 returns-4 c =
     let e3 = c .before .before in
     simp (count-kept (e3 .before .before .before .before), range-kept e3, le-ltb _ _ (c .if4 .taken))
-
-segments-rise-requires : tie.Need-segments-rise-requires
-segments-rise-requires c κs = few (c .before .before .before .before .before .before)
 
 returns-5 : tie.Need-returns-5
 unfolding bidVerdict
@@ -74,8 +76,8 @@ returns-5 c =
     let fails = failed (c .before .segments-rise .ensures) (c .if5 .taken) in
     simp (count-kept (e3 .before .before .before .before), range-kept e3, above, fails)
 
-starts-not-negative-requires : tie.Need-starts-not-negative-requires
-starts-not-negative-requires c κs =
+all-pass-requires-2 : tie.Need-all-pass-requires-2
+all-pass-requires-2 c κs =
     let e3 = c .before .before .before .before in
     (few (e3 .before .before .before .before), segments-kept e3)
 
@@ -86,7 +88,7 @@ returns-6 c =
     let e4 = e5 .before .before in
     let e3 = e4 .before .before in
     let above = lt-ltb _ _ (e4 .if4 .left) in
-    let fails = failed (c .before .starts-not-negative .ensures) (c .if6 .taken) in
+    let fails = failed (c .before .all-pass2 .ensures) (c .if6 .taken) in
     simp (count-kept (e3 .before .before .before .before), range-kept e3, above, rise-kept e5, fails)
 
 returns-7 : tie.Need-returns-7
@@ -96,22 +98,22 @@ returns-7 c =
     let e4 = e5 .before .before in
     let e3 = e4 .before .before in
     let above = lt-ltb _ _ (e4 .if4 .left) in
-    let passes = passed (c .before .starts-not-negative .ensures) (c .if6 .left) in
+    let passes = passed (c .before .all-pass2 .ensures) (c .if6 .left) in
     simp (count-kept (e3 .before .before .before .before), range-kept e3, above, rise-kept e5, passes)
 
 pub check-bid-spec : {M : Type 1} → statement M
 check-bid-spec =
     tie.close
     (tie.spec
-    within-requires
+    (λ c κs. search needs)
     returns
-    within-requires-2
+    (λ c κs. search needs)
     returns-2
-    segments-in-range-requires
+    all-pass-requires
     returns-3
     returns-4
-    segments-rise-requires
+    (λ c κs. few (c .before .before .before .before .before .before))
     returns-5
-    starts-not-negative-requires
+    all-pass-requires-2
     returns-6
     returns-7)

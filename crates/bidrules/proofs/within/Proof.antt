@@ -1,3 +1,4 @@
+-- Each end of the range is tested once.
 use borrow.Author.Tests.{lt-leb, le-leb}
 use Rattle.bidrules.proofs.within.Statement.{statement}
 use Rattle.bidrules.proofs.within.Tie as tie

@@ -1,3 +1,4 @@
+-- The tests stand in the order of the lines: each that is passed leaves the next to decide.
 use mathlib.Core.Bool.{true}
 use mathlib.Core.Path.{_≡_, sym, _∙_}
 use native.Mathlib.Omega.{arith}
@@ -16,9 +17,6 @@ demand-kept c = passed (c .before .within .ensures) (c .if1 .left)
 some-bid : (c : tie.Else2) → ltb 0 (c .before .before .before .args .book .count) ≡ true
 some-bid c = lt-ltb 0 (c .before .before .before .args .book .count) (omega (arith, c .if2 .left))
 
-within-requires : tie.Need-within-requires
-within-requires c κs = search needs
-
 returns : tie.Need-returns
 unfolding bookVerdict
 returns c = simp (failed (c .before .within .ensures) (c .if1 .taken))
@@ -27,21 +25,12 @@ returns-2 : tie.Need-returns-2
 unfolding bookVerdict
 returns-2 c = simp (demand-kept (c .before), c .if2 .taken)
 
-check-bids-requires : tie.Need-check-bids-requires
-check-bids-requires c κs = search needs
-
-enum-told : tie.Need-enum-told
-enum-told c = search needs
-
 returns-3 : tie.Need-returns-3
 unfolding bookVerdict
 returns-3 c =
     let e2 = c .before .before .before in
     let verdict = c .enum-told .given .1 in
     simp (demand-kept (e2 .before), some-bid e2, sym (c .before .before .check-bids .ensures) ∙ verdict) verdict
-
-enum-told-2 : tie.Need-enum-told-2
-enum-told-2 c = search needs
 
 returns-4 : tie.Need-returns-4
 unfolding bookVerdict
@@ -59,12 +48,12 @@ pub check-spec : {M : Type 1} → statement M
 check-spec =
     tie.close
     (tie.spec
-    within-requires
+    (λ c κs. search needs)
     returns
     returns-2
-    check-bids-requires
-    enum-told
+    (λ c κs. search needs)
+    (λ c. search needs)
     returns-3
-    enum-told-2
+    (λ c. search needs)
     returns-4
     returns-5)

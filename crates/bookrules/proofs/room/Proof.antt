@@ -1,27 +1,16 @@
+-- Beside a refusal 0, and else 17 and the part for the bids.
 use mathlib.Core.Path.{sym, _∙_}
 use borrow.Author.Needs.{needs}
 use Rattle.book.specs.Room.{roomOf}
 use Rattle.bookrules.proofs.room.Statement.{statement}
 use Rattle.bookrules.proofs.room.Tie as tie
 
-check-requires : tie.Need-check-requires
-check-requires c κs = search needs
-
-enum-told : tie.Need-enum-told
-enum-told c = search needs
-
 returns : tie.Need-returns
 unfolding roomOf
 returns c = rw (sym (c .before .before .check .ensures) ∙ c .enum-told .given .1, c .enum-told .given .1)
 
-enum-told-2 : tie.Need-enum-told-2
-enum-told-2 c = search needs
-
 room-of-bids-requires : tie.Need-room-of-bids-requires
 room-of-bids-requires c κs = sym (c .before .before .check .ensures) ∙ c .enum-told2 .given .1
-
-add-bytes : tie.Need-add-bytes
-add-bytes c = search needs
 
 returns-2 : tie.Need-returns-2
 unfolding roomOf
@@ -31,4 +20,4 @@ returns-2 c =
 
 pub room-spec : {M : Type 1} → statement M
 room-spec =
-    tie.close (tie.spec check-requires enum-told returns enum-told-2 room-of-bids-requires add-bytes returns-2)
+    tie.close (tie.spec (λ c κs. search needs) (λ c. search needs) returns (λ c. search needs) room-of-bids-requires (λ c. search needs) returns-2)

@@ -1,3 +1,4 @@
+-- A book is refused by the rules, or for want of a division, or its award is made of its best division.
 use mathlib.Core.Path.{_≡_, sym, ap, _∙_}
 use borrow.Author.Needs.{needs}
 use borrow.Author.Tests.{not-true, not-false}
@@ -10,32 +11,17 @@ use Rattle.clearing.proofs.Answers.{rules-first, clear-none, clear-awar
 use Rattle.clearing.proofs.clear.Statement.{statement}
 use Rattle.clearing.proofs.clear.Tie as tie
 
-check-requires : tie.Need-check-requires
-check-requires c κs = search needs
-
-enum-told : tie.Need-enum-told
-enum-told c = search needs
-
-refused-requires : tie.Need-refused-requires
-refused-requires c κs = search needs
-
 returns : tie.Need-returns
 returns c =
     let told = c .before .enum-told .given in
     let check = c .before .before .before .check in
     c .refused .ensures ∙ ap refusedClearing (told .1) ∙ sym (rules-first _ (told .0 .0) (told .0 .1 .0) (sym (check .ensures) ∙ told .1))
 
-enum-told-2 : tie.Need-enum-told-2
-enum-told-2 c = search needs
-
 accepted : (c : tie.After-enum-told2) → bookVerdict (bookEntries (c .before .before .before .args .book)) ≡ Accepted
 accepted c = sym (c .before .before .check .ensures) ∙ c .enum-told2 .given .1
 
 best-division-requires : tie.Need-best-division-requires
 best-division-requires c κs = searchable _ (accepted c)
-
-refused-requires-2 : tie.Need-refused-requires-2
-refused-requires-2 c κs = search needs
 
 returns-2 : tie.Need-returns-2
 returns-2 c =
@@ -58,13 +44,13 @@ pub clear-spec : {M : Type 1} → statement M
 clear-spec =
     tie.close
     (tie.spec
-    check-requires
-    enum-told
-    refused-requires
+    (λ c κs. search needs)
+    (λ c. search needs)
+    (λ c κs. search needs)
     returns
-    enum-told-2
+    (λ c. search needs)
     best-division-requires
-    refused-requires-2
+    (λ c κs. search needs)
     returns-2
     rows-requires
     returns-3)

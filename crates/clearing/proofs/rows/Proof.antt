@@ -1,3 +1,4 @@
+-- The rows made so far are those of the bids passed, and the others are blank.
 use Prim.Native.Nat.{_≤_, _-_}
 use mathlib.Core.Path.{_≡_, ap, _∙_}
 use native.Mathlib.Omega.{arith}
@@ -35,41 +36,14 @@ this-accepted c =
     let s = c .before .before .before in
     bid-at (s .args .t1) (s .pre) (held s) (c .before .loop .i) (c .loop-test .taken)
 
-no-row-requires : tie.Need-no-row-requires Inv-loop μ-loop
-no-row-requires c κs = search needs
-
 loop-holds : tie.Need-loop-holds Inv-loop μ-loop
 loop-holds c = made-none (c .before .args .t1) (c .before .args .t2) (c .no-row .result) (c .no-row .ensures)
-
-mul-bid : tie.Need-mul-bid Inv-loop μ-loop
-mul-bid c = omega (arith, few (c .before .before .before))
-
-element-copy-out-bid : tie.Need-element-copy-out-bid Inv-loop μ-loop
-element-copy-out-bid c = omega (arith, few (c .before .before .before))
-
-mul-quantity : tie.Need-mul-quantity Inv-loop μ-loop
-mul-quantity c = omega (arith, few (c .before .before .before .before))
-
-array-copy-out-quantity : tie.Need-array-copy-out-quantity Inv-loop μ-loop
-array-copy-out-quantity c = omega (arith, few (c .before .before .before .before))
 
 total-without-requires : tie.Need-total-without-requires Inv-loop μ-loop
 total-without-requires c κs = (c .before .before .before .before .before .pre, omega arith)
 
 row-of-requires : tie.Need-row-of-requires Inv-loop μ-loop
 row-of-requires c κs = let kept = this-accepted (c .before .before .before) in (kept .count-high, kept .ranges)
-
-mul-rows : tie.Need-mul-rows Inv-loop μ-loop
-mul-rows c = omega (arith, few (c .before .before .before .before .before .before .before))
-
-array-set-from-rows : tie.Need-array-set-from-rows Inv-loop μ-loop
-array-set-from-rows c = omega (arith, few (c .before .before .before .before .before .before .before))
-
-add-i : tie.Need-add-i Inv-loop μ-loop
-add-i c = omega (arith, few (c .before .before .before .before .before .before .before))
-
-loop-less : tie.Need-loop-less Inv-loop μ-loop
-loop-less c = search needs
 
 loop-again : tie.Need-loop-again Inv-loop μ-loop
 loop-again c =
@@ -91,17 +65,17 @@ rows-spec =
     (tie.spec
     Inv-loop
     μ-loop
-    no-row-requires
+    (λ c κs. search needs)
     loop-holds
-    mul-bid
-    element-copy-out-bid
-    mul-quantity
-    array-copy-out-quantity
+    (λ c. omega (arith, few (c .before .before .before)))
+    (λ c. omega (arith, few (c .before .before .before)))
+    (λ c. omega (arith, few (c .before .before .before .before)))
+    (λ c. omega (arith, few (c .before .before .before .before)))
     total-without-requires
     row-of-requires
-    mul-rows
-    array-set-from-rows
-    add-i
-    loop-less
+    (λ c. omega (arith, few (c .before .before .before .before .before .before .before)))
+    (λ c. omega (arith, few (c .before .before .before .before .before .before .before)))
+    (λ c. omega (arith, few (c .before .before .before .before .before .before .before)))
+    (λ c. search needs)
     loop-again
     returns)

@@ -1,3 +1,4 @@
+-- The best division of the book less the bid has the total, and there is none where it has none.
 use borrow.Author.Tests.{not-true, not-false}
 use Rattle.book.specs.Entries.{bookEntries}
 use Rattle.book.proofs.Accepted.{book-accepted}

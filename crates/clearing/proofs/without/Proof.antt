@@ -1,3 +1,4 @@
+-- The bids after the one that goes have been moved a place forward.
 use Prim.Native.Nat.{_-_}
 use mathlib.Core.Path.{_≡_}
 use borrow.Author.Needs.{needs}
@@ -16,32 +17,8 @@ abbrev μ-loop : tie.MeasureT-loop
 held : (c : tie.Start Inv-loop μ-loop) → length (c .args .t1 .bids) ≡ 8
 held c = search (length-held, c .good)
 
-sub-count : tie.Need-sub-count Inv-loop μ-loop
-sub-count c = search needs
-
 loop-holds : tie.Need-loop-holds Inv-loop μ-loop
 loop-holds c = moved-none _ (c .args .t1) (c .pre .1) (held c) (c .pre .0)
-
-add-bid : tie.Need-add-bid Inv-loop μ-loop
-add-bid c = search needs
-
-mul-bid : tie.Need-mul-bid Inv-loop μ-loop
-mul-bid c = search needs
-
-element-copy-out-bid : tie.Need-element-copy-out-bid Inv-loop μ-loop
-element-copy-out-bid c = search needs
-
-mul-bid-2 : tie.Need-mul-bid-2 Inv-loop μ-loop
-mul-bid-2 c = search needs
-
-element-set-from-bid : tie.Need-element-set-from-bid Inv-loop μ-loop
-element-set-from-bid c = search needs
-
-add-i : tie.Need-add-i Inv-loop μ-loop
-add-i c = search needs
-
-loop-less : tie.Need-loop-less Inv-loop μ-loop
-loop-less c = search needs
 
 loop-again : tie.Need-loop-again Inv-loop μ-loop
 loop-again c =
@@ -62,14 +39,14 @@ without-spec =
     (tie.spec
     Inv-loop
     μ-loop
-    sub-count
+    (λ c. search needs)
     loop-holds
-    add-bid
-    mul-bid
-    element-copy-out-bid
-    mul-bid-2
-    element-set-from-bid
-    add-i
-    loop-less
+    (λ c. search needs)
+    (λ c. search needs)
+    (λ c. search needs)
+    (λ c. search needs)
+    (λ c. search needs)
+    (λ c. search needs)
+    (λ c. search needs)
     loop-again
     returns)

@@ -1,3 +1,4 @@
+-- The quantity is above the bands passed, and the first that reaches it has the sample.
 use Prim.Native.Nat.{ℕ, _≤_, _<_, _-_}
 use mathlib.Core.Path.{_≡_, sym, ap, _∙_}
 use native.Mathlib.Omega.{arith}
@@ -29,12 +30,6 @@ loop-holds c =
     let h : length bands ≡ 16 = search (length-held, c .before .good) in
     (omega arith, omega arith, (0, omega (arith, c .if1 .left), ap (λ l. sampleAbove 0 l (c .before .args .q)) (sym (take-all 16 bands (omega arith)))))
 
-mul-band : tie.Need-mul-band Inv-loop μ-loop
-mul-band c = search needs
-
-array-copy-out-band : tie.Need-array-copy-out-band Inv-loop μ-loop
-array-copy-out-band c = search needs
-
 returns-2 : tie.Need-returns-2 Inv-loop μ-loop
 returns-2 c =
     let l = c .before .before .before in
@@ -42,12 +37,6 @@ returns-2 c =
     let at = l .before .loop in
     let (before, above, left) = at .inv .2 in
     sym (left ∙ scan-stop before (a .q) (a .t1) (at .i) 16 above (l .loop-test .taken) (at .inv .1) (c .if2 .taken))
-
-add-i : tie.Need-add-i Inv-loop μ-loop
-add-i c = search needs
-
-loop-less : tie.Need-loop-less Inv-loop μ-loop
-loop-less c = search needs
 
 loop-again : tie.Need-loop-again Inv-loop μ-loop
 loop-again c =
@@ -79,10 +68,10 @@ sample-in-spec =
     μ-loop
     returns
     loop-holds
-    mul-band
-    array-copy-out-band
+    (λ c. search needs)
+    (λ c. search needs)
     returns-2
-    add-i
-    loop-less
+    (λ c. search needs)
+    (λ c. search needs)
     loop-again
     returns-3)

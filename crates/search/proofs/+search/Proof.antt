@@ -13,8 +13,9 @@ use Rattle.book.proofs.Accepted.{AcceptedBid, accepted-at}
 use Rattle.supply.specs.Supply.{supplyOf, suppliesOf}
 use Rattle.choices.proofs.Search.{each, search as searchFrom}
 use Rattle.choices.proofs.Accepted.{sound-segment-at}
-use Rattle.filling.specs.declared.Best.{Best}
-use Rattle.filling.specs.Records.{chosen, found}
+use Rattle.comparison.specs.declared.Best.{Best}
+use Rattle.comparison.specs.Records.{found}
+use Rattle.filling.specs.Records.{chosen}
 use Rattle.search.proofs.Steps.{for-all, each-none, each-next, each-all, tried, bidders-next, bidders-last, few-segments}
 use borrow.Fn.Kinds.{In}
 use borrow.Fn.PlainCycle.{Measures, is, falls, and}

@@ -14,7 +14,8 @@ use Rattle.divisions.specs.Award.{awardOf}
 use Rattle.choices.proofs.Search.{searched, search as searchFrom}
 use Rattle.choices.proofs.Accepted.{sound-supplies}
 use Rattle.choices.proofs.Finds.{finds}
-use Rattle.filling.specs.Records.{row, chosen, found}
+use Rattle.comparison.specs.Records.{found}
+use Rattle.filling.specs.Records.{row, chosen}
 use Rattle.search.proofs.Steps.{sound-nothing, for-all, bidders-last, no-bidders, from-nothing}
 use Rattle.search.proofs.best_division.Statement.{statement}
 use Rattle.search.proofs.best_division.Tie as tie

@@ -3,7 +3,8 @@ use borrow.Author.Needs.{needs}
 use mathlib.Core.List.{List}
 use Rattle.lists.proofs.Tests.{passed, failed}
 use Rattle.book.specs.declared.Segment.{Segment}
-use Rattle.filling.specs.Records.{rows, divisionIn, found}
+use Rattle.comparison.specs.Records.{divisionIn, found}
+use Rattle.filling.specs.Records.{rows}
 use Rattle.filling.proofs.Rows.{sound-ranges}
 use Rattle.search.proofs.Steps.{unfit, fit}
 use Rattle.search.proofs.leaf.Statement.{statement}

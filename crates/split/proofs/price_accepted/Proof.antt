@@ -1,3 +1,4 @@
+-- The quantities passed are on offer, and their prices and blanks are added up; those left decide.
 use Prim.Native.Nat.{ℕ, _+_, _≤_, _<_, _-_}
 use mathlib.Core.Bool.{true}
 use mathlib.Core.Path.{_≡_, sym, ap, _∙_}
@@ -66,38 +67,14 @@ small c = supply-small (this (turn c)) (quantity c) (this-accepted (turn c) .ran
 loop-holds : tie.Need-loop-holds Inv-loop μ-loop
 loop-holds c = left-all _ _
 
-refused-at-requires : tie.Need-refused-at-requires Inv-loop μ-loop
-refused-at-requires c κs = omega (arith, few (c .before .before))
-
 returns : tie.Need-returns Inv-loop μ-loop
 returns c =
     let l = c .before .before in
     let at = l .before .loop in
     c .refused-at .ensures ∙ missing (at .inv) (l .before .before .before .pre) (l .loop-test .taken) (held (l .before)) (c .before .if1 .taken)
 
-mul-quantity : tie.Need-mul-quantity Inv-loop μ-loop
-mul-quantity c = omega (arith, few (c .before .before))
-
-shared-slice-read-quantity : tie.Need-shared-slice-read-quantity Inv-loop μ-loop
-shared-slice-read-quantity c = search needs
-
-mul-bid : tie.Need-mul-bid Inv-loop μ-loop
-mul-bid c = omega (arith, few (c .before .before .before))
-
-element-copy-out-bid : tie.Need-element-copy-out-bid Inv-loop μ-loop
-element-copy-out-bid c = omega (arith, few (c .before .before .before))
-
 price-at-requires : tie.Need-price-at-requires Inv-loop μ-loop
 price-at-requires c κs = let kept = this-accepted (c .before .before .before) in (kept .count-high, kept .ranges)
-
-enum-known-offer : tie.Need-enum-known-offer Inv-loop μ-loop
-enum-known-offer c = search needs
-
-enum-told : tie.Need-enum-told Inv-loop μ-loop
-enum-told c = search needs
-
-refused-at-requires-2 : tie.Need-refused-at-requires-2 Inv-loop μ-loop
-refused-at-requires-2 c κs = omega (arith, few (c .before .before .before .before .before .before .before))
 
 returns-2 : tie.Need-returns-2 Inv-loop μ-loop
 returns-2 c =
@@ -119,21 +96,12 @@ add-sum c =
     let at = turn (c .before) .before in
     omega (arith, small (c .before) .quantity, at .loop .inv .sum-size, few at)
 
-add-i : tie.Need-add-i Inv-loop μ-loop
-add-i c = omega (arith, few (turn (c .before) .before))
-
-loop-less : tie.Need-loop-less Inv-loop μ-loop
-loop-less c = search needs
-
 loop-again : tie.Need-loop-again Inv-loop μ-loop
 loop-again c =
     let o = c .before in
     let l = turn o in
     let at = l .before .loop in
     left-next (at .inv) (l .before .before .before .pre) (l .loop-test .taken) (held (l .before)) (present o) (small o) _ (on-offer o .1) (on-offer o .0) (c .plus .result .0) (c .plus .ensures)
-
-refused-at-requires-3 : tie.Need-refused-at-requires-3 Inv-loop μ-loop
-refused-at-requires-3 c κs = few (c .before .before)
 
 returns-3 : tie.Need-returns-3 Inv-loop μ-loop
 returns-3 c =
@@ -155,22 +123,22 @@ price-accepted-spec =
     Inv-loop
     μ-loop
     loop-holds
-    refused-at-requires
+    (λ c κs. omega (arith, few (c .before .before)))
     returns
-    mul-quantity
-    shared-slice-read-quantity
-    mul-bid
-    element-copy-out-bid
+    (λ c. omega (arith, few (c .before .before)))
+    (λ c. search needs)
+    (λ c. omega (arith, few (c .before .before .before)))
+    (λ c. omega (arith, few (c .before .before .before)))
     price-at-requires
-    enum-known-offer
-    enum-told
-    refused-at-requires-2
+    (λ c. search needs)
+    (λ c. search needs)
+    (λ c κs. omega (arith, few (c .before .before .before .before .before .before .before)))
     returns-2
     plus-requires
     add-sum
-    add-i
-    loop-less
+    (λ c. omega (arith, few (turn (c .before) .before)))
+    (λ c. search needs)
     loop-again
-    refused-at-requires-3
+    (λ c κs. few (c .before .before))
     returns-3
     returns-4)

@@ -1,3 +1,4 @@
+-- A refused book is refused here, and an accepted one is priced.
 use mathlib.Core.Path.{sym, ap, _∙_}
 use borrow.Author.Needs.{needs}
 use Rattle.split.specs.Split.{refusedSplit}
@@ -5,23 +6,11 @@ use Rattle.split.proofs.Steps.{book-refused}
 use Rattle.split.proofs.price_split.Statement.{statement}
 use Rattle.split.proofs.price_split.Tie as tie
 
-check-requires : tie.Need-check-requires
-check-requires c κs = search needs
-
-enum-told : tie.Need-enum-told
-enum-told c = search needs
-
-refused-requires : tie.Need-refused-requires
-refused-requires c κs = search needs
-
 returns : tie.Need-returns
 returns c =
     let told = c .before .enum-told .given in
     let check = c .before .before .before .check in
     c .refused .ensures ∙ ap refusedSplit (told .1) ∙ book-refused _ _ (told .0 .0) (told .0 .1 .0) (sym (check .ensures) ∙ told .1)
-
-enum-told-2 : tie.Need-enum-told-2
-enum-told-2 c = search needs
 
 price-accepted-requires : tie.Need-price-accepted-requires
 price-accepted-requires c κs = sym (c .before .before .check .ensures) ∙ c .enum-told2 .given .1
@@ -33,10 +22,10 @@ pub price-split-spec : {M : Type 1} → statement M
 price-split-spec =
     tie.close
     (tie.spec
-    check-requires
-    enum-told
-    refused-requires
+    (λ c κs. search needs)
+    (λ c. search needs)
+    (λ c κs. search needs)
     returns
-    enum-told-2
+    (λ c. search needs)
     price-accepted-requires
     returns-2)

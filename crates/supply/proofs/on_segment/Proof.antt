@@ -1,3 +1,4 @@
+-- Start and end are each tested once.
 use borrow.Author.Tests.{lt-leb, le-leb}
 use Rattle.supply.specs.Supply.{on}
 use Rattle.supply.proofs.on_segment.Statement.{statement}

@@ -1,3 +1,4 @@
+-- Number 0 is segment 0, and the others are those of the record, one further.
 use Prim.Native.Nat.{_<_}
 use mathlib.Core.Path.{_≡_}
 use native.Mathlib.Omega.{arith}
@@ -18,19 +19,10 @@ there s =
 returns : tie.Need-returns
 returns c = (there (c .before), rw (c .if1 .taken))
 
-sub-result : tie.Need-sub-result
-sub-result c = search needs
-
-mul-result : tie.Need-mul-result
-mul-result c = search needs
-
-element-copy-out-result : tie.Need-element-copy-out-result
-element-copy-out-result c = search needs
-
 returns-2 : tie.Need-returns-2
 returns-2 c =
     let s = c .before .before in
     (there s, numbered (s .args .t1 .segments) (s .args .t1 .count) (s .args .number) (c .before .if1 .left) (s .pre .1))
 
 pub segment-of-spec : {M : Type 1} → statement M
-segment-of-spec = tie.close (tie.spec returns sub-result mul-result element-copy-out-result returns-2)
+segment-of-spec = tie.close (tie.spec returns (λ c. search needs) (λ c. search needs) (λ c. search needs) returns-2)

@@ -1,3 +1,4 @@
+-- The bids passed have been added up, and the sum stays small, since each has at most six segments.
 use Prim.Native.Nat.{ℕ, _+_, _*_, _≤_, _<_, _-_}
 use mathlib.Core.List.{List}
 use native.Mathlib.Nat.{zero-add}
@@ -44,12 +45,6 @@ room-done bs i n h k = ap roomOfBids (entries-done bs i n h k)
 loop-holds : tie.Need-loop-holds Inv-loop μ-loop
 loop-holds c = (omega arith, omega arith, sym (zero-add _))
 
-mul-b : tie.Need-mul-b Inv-loop μ-loop
-mul-b c = omega (arith, few (c .before))
-
-element-copy-out-b : tie.Need-element-copy-out-b Inv-loop μ-loop
-element-copy-out-b c = omega (arith, few (c .before))
-
 mul-room : tie.Need-mul-room Inv-loop μ-loop
 mul-room c = omega (arith, this-bid (c .before) .count-high)
 
@@ -58,12 +53,6 @@ add-room c = omega (arith, this-bid (c .before) .count-high)
 
 add-room-2 : tie.Need-add-room-2 Inv-loop μ-loop
 add-room-2 c = omega (arith, this-bid (c .before) .count-high, few (c .before .before))
-
-add-i : tie.Need-add-i Inv-loop μ-loop
-add-i c = omega (arith, few (c .before .before))
-
-loop-less : tie.Need-loop-less Inv-loop μ-loop
-loop-less c = search needs
 
 loop-again : tie.Need-loop-again Inv-loop μ-loop
 loop-again c =
@@ -91,12 +80,12 @@ room-of-bids-spec =
     Inv-loop
     μ-loop
     loop-holds
-    mul-b
-    element-copy-out-b
+    (λ c. omega (arith, few (c .before)))
+    (λ c. omega (arith, few (c .before)))
     mul-room
     add-room
     add-room-2
-    add-i
-    loop-less
+    (λ c. omega (arith, few (c .before .before)))
+    (λ c. search needs)
     loop-again
     returns)

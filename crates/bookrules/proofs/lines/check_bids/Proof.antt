@@ -1,3 +1,4 @@
+-- The bids passed are accepted, and those left decide; the line counts along.
 use Prim.Native.Nat.{_+_, _≤_, _-_, min}
 use mathlib.Core.List.{List, map}
 use mathlib.Core.Path.{_≡_, refl, sym, ap, _∙_}
@@ -19,9 +20,6 @@ Inv-loop book n before₀ line₀ i₀ before line i =
 abbrev μ-loop : tie.MeasureT-loop
 μ-loop book n before₀ line₀ i₀ before line i = n - i
 
-held-requires : tie.Need-held-requires Inv-loop μ-loop
-held-requires c κs = search needs
-
 loop-holds : tie.Need-loop-holds Inv-loop μ-loop
 loop-holds c =
     let b = c .before .args .t1 in
@@ -32,18 +30,6 @@ loop-holds c =
       ap (λ (bs : List Bid). bidsVerdict 2 0 (map bidEntries bs))
           (sym (take-held (b .bids) (b .count) (c .held .result) (c .held .ensures ∙ ap (min (b .count)) (sym h)))),
     )
-
-mul-b : tie.Need-mul-b Inv-loop μ-loop
-mul-b c = search needs
-
-element-copy-out-b : tie.Need-element-copy-out-b Inv-loop μ-loop
-element-copy-out-b c = search needs
-
-check-bid-requires : tie.Need-check-bid-requires Inv-loop μ-loop
-check-bid-requires c κs = search needs
-
-enum-told : tie.Need-enum-told Inv-loop μ-loop
-enum-told c = search needs
 
 -- the record holds at least as many bids as the loop goes through
 held : (c : tie.In-loop Inv-loop μ-loop) → c .before .before .held .result ≤ length (c .before .before .before .args .t1 .bids)
@@ -61,18 +47,6 @@ returns c =
     let refused = sym (c .before .before .check-bid .ensures) ∙ told .1 in
     told .1
     ∙ sym (at .inv .3 ∙ bids-stop (at .line) (at .before) bids (at .i) n (l .loop-test .taken) (held l) (told .0 .0) (told .0 .1 .0) refused)
-
-enum-told-2 : tie.Need-enum-told-2 Inv-loop μ-loop
-enum-told-2 c = search needs
-
-add-line : tie.Need-add-line Inv-loop μ-loop
-add-line c = search needs
-
-add-i : tie.Need-add-i Inv-loop μ-loop
-add-i c = search needs
-
-loop-less : tie.Need-loop-less Inv-loop μ-loop
-loop-less c = search needs
 
 loop-again : tie.Need-loop-again Inv-loop μ-loop
 loop-again c =
@@ -100,16 +74,16 @@ check-bids-spec =
     (tie.spec
     Inv-loop
     μ-loop
-    held-requires
+    (λ c κs. search needs)
     loop-holds
-    mul-b
-    element-copy-out-b
-    check-bid-requires
-    enum-told
+    (λ c. search needs)
+    (λ c. search needs)
+    (λ c κs. search needs)
+    (λ c. search needs)
     returns
-    enum-told-2
-    add-line
-    add-i
-    loop-less
+    (λ c. search needs)
+    (λ c. search needs)
+    (λ c. search needs)
+    (λ c. search needs)
     loop-again
     returns-2)

@@ -1,0 +1,71 @@
+// Divisions as records, and compared as the award is fixed: by cost, and among equal costs by who gets more
+// first.
+ghost use mathlib.Core.Path.{_≡_};
+ghost use mathlib.Core.Bool.{true};
+ghost use Prim.Native.Nat.{_≤_};
+ghost use lib.ListN.{take};
+ghost use Rattle.divisions.specs.Award.{givesMore, better, pick};
+ghost use Rattle.comparison.specs.Records.{blanksIn, divisionIn, found};
+use money::Blanks;
+use money::Cents;
+
+// A division, if one was found: its cost, and a quantity for each bidder in book order.
+pub struct Best {
+    pub found: bool,
+    pub total: Cents,
+    pub quantities: [Blanks; 8],
+}
+
+// Whether a gives more than b to the first of n bidders at whom the two differ.
+fn gives_more(a: [Blanks; 8], b: [Blanks; 8], n: usize) -> bool
+    requires { ⌜ n ≤ 8 ⌝ }
+    ensures { λ r. ⌜ r ≡ givesMore (take n (blanksIn a)) (take n (blanksIn b)) ⌝ }
+{
+    let mut i: usize = 0;
+    while i < n {
+        let x = a[i];
+        let y = b[i];
+        if y.0 < x.0 {
+            return true;
+        }
+        if x.0 < y.0 {
+            return false;
+        }
+        i += 1;
+    }
+    false
+}
+
+// Whether a costs less than b; or it costs no more, and gives more to the first bidder at whom the
+// two differ.
+fn better(a: Best, b: Best, n: usize) -> bool
+    requires { ⌜ n ≤ 8 ⌝ }
+    ensures { λ r. ⌜ r ≡ better (divisionIn n a) (divisionIn n b) ⌝ }
+{
+    let cost = a.total;
+    let other = b.total;
+    if !money::at_most(cost, other) {
+        return false;
+    }
+    if !money::at_most(other, cost) {
+        return true;
+    }
+    let quantities = a.quantities;
+    let others = b.quantities;
+    gives_more(quantities, others, n)
+}
+
+// The better of the division kept so far, if there is one, and a new one. It is pub for the search.
+pub fn pick(kept: Best, new: Best, n: usize) -> Best
+    requires { ⌜ n ≤ 8 ⌝ }
+    requires { ⌜ new .found ≡ true ⌝ }
+    ensures { λ r. ⌜ found n r ≡ pick (found n kept) (divisionIn n new) ⌝ }
+{
+    if !kept.found {
+        return new;
+    }
+    if !better(new, kept, n) {
+        return kept;
+    }
+    new
+}
