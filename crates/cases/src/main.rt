@@ -37,11 +37,13 @@ fn subject(bytes: &[u8], before: usize, at: usize) -> usize {
 
 fn answer(bytes: &[u8], about: usize, at: usize) {
     let line = pieces::line(bytes, at);
-    show::line(line);
     let body = pieces::body(bytes, about);
+    show::line(line);
+    let mut out = [b'.'; 600];
+    let size = (pieces::number(line) % 600) as usize;
     if pieces::byte(bytes, about) == b't' {
-        texts::answer(line, body);
+        texts::answer(line, body, &mut out[0..size]);
         return;
     }
-    records::answer(line, body);
+    records::answer(line, body, &mut out[0..size]);
 }

@@ -1,11 +1,11 @@
 // Standard input: pieces that begin after a byte `%`, each a line and the bytes after it; and numbers.
-ghost use Prim.Native.Nat.{_≤_, _<_};
+ghost use Prim.Native.Nat.{_≤_, _<_, min};
 ghost use lib.ListN.{length};
 
 // The place of the next such byte, or the end.
 pub fn place(bytes: &[u8], at: usize, byte: u8) -> usize
     ensures { λ r. ⌜ r ≤ length (now (bytes .entry)) ⌝ }
-    ensures { λ r. ⌜ (at ≤ length (now (bytes .entry)) → at ≤ r) ⌝ }
+    ensures { λ r. ⌜ min at (length (now (bytes .entry))) ≤ r ⌝ }
 {
     let mut i = at;
     while i < bytes.len() {
@@ -93,6 +93,15 @@ fn with_digit(number: u64, digit: u8) -> u64 {
 
 fn wide(x: u8) -> u64 {
     x as u64
+}
+
+// The numbers from the second to the last.
+pub fn to_last(numbers: &[u64; 260], last: usize) -> &[u64]
+    requires { ⌜ last < 260 ⌝ }
+{
+    let all: &[u64] = numbers;
+    let end = last + 1;
+    &all[1..end]
 }
 
 // The first number after a line's first word.

@@ -9,14 +9,14 @@ use money::Blanks;
 use money::Cents;
 use money::CentsPerBlank;
 
-pub fn answer(line: &[u8], numbers: &[u8]) {
+pub fn answer(line: &[u8], numbers: &[u8], out: &mut [u8]) {
     let book = book(numbers);
     match pieces::byte(line, 0) {
         b'b' => check(book),
         b'r' => room(book),
         b'p' => price(line, book),
-        b'a' => sheet(line, book),
-        b'w' => written(line, book),
+        b'a' => sheet(book, out),
+        b'w' => written(book, out),
         b's' => sample(line),
         _ => (),
     }
@@ -36,28 +36,23 @@ fn room(book: Book) {
 fn price(line: &[u8], book: Book) {
     let mut numbers = [0u64; 260];
     let last = pieces::numbers(line, &mut numbers);
-    let end = last + 1;
-    let s = split::price_split(book, &numbers[1..end]);
+    let s = split::price_split(book, pieces::to_last(&numbers, last));
     show::price(s);
 }
 
 // The sheet of the award, also of the empty one beside a refusal.
-fn sheet(line: &[u8], book: Book) {
-    let mut out = [b'.'; 600];
-    let size = (pieces::number(line) % 600) as usize;
+fn sheet(book: Book, out: &mut [u8]) {
     let cleared = clearing::clear(book);
-    let award = cleared.award;
-    let w = sheet::write(award, &mut out[0..size]);
     let verdict = cleared.verdict;
+    let award = cleared.award;
+    let w = sheet::write(award, out);
     show::answer(verdict, w.bytes);
-    show::line(&out[0..size]);
+    show::line(out);
 }
 
-fn written(line: &[u8], book: Book) {
-    let mut out = [b'.'; 600];
-    let size = (pieces::number(line) % 600) as usize;
-    let w = writer::write(book, &mut out[0..size]);
-    show::output(w, &out[0..size]);
+fn written(book: Book, out: &mut [u8]) {
+    let w = writer::write(book, out);
+    show::output(w, out);
 }
 
 fn sample(line: &[u8]) {

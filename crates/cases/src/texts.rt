@@ -2,13 +2,13 @@
 use crate::pieces;
 use crate::show;
 
-pub fn answer(line: &[u8], text: &[u8]) {
+pub fn answer(line: &[u8], text: &[u8], out: &mut [u8]) {
     match pieces::byte(line, 0) {
         b't' => printed(text),
         b'r' => room(text),
         b'p' => price(line, text),
-        b'a' => sheet(line, text),
-        b'w' => written(line, text),
+        b'a' => sheet(text, out),
+        b'w' => written(text, out),
         b'c' => cuts(text),
         _ => (),
     }
@@ -30,23 +30,18 @@ fn room(text: &[u8]) {
 fn price(line: &[u8], text: &[u8]) {
     let mut numbers = [0u64; 260];
     let last = pieces::numbers(line, &mut numbers);
-    let end = last + 1;
-    let s = tender::price_split(text, &numbers[1..end]);
+    let s = tender::price_split(text, pieces::to_last(&numbers, last));
     show::price(s);
 }
 
-fn sheet(line: &[u8], text: &[u8]) {
-    let mut out = [b'.'; 600];
-    let size = (pieces::number(line) % 600) as usize;
-    let w = tender::sheet(text, &mut out[0..size]);
-    show::output(w, &out[0..size]);
+fn sheet(text: &[u8], out: &mut [u8]) {
+    let w = tender::sheet(text, out);
+    show::output(w, out);
 }
 
-fn written(line: &[u8], text: &[u8]) {
-    let mut out = [b'.'; 600];
-    let size = (pieces::number(line) % 600) as usize;
-    let w = tender::write(text, &mut out[0..size]);
-    show::output(w, &out[0..size]);
+fn written(text: &[u8], out: &mut [u8]) {
+    let w = tender::write(text, out);
+    show::output(w, out);
 }
 
 // Every proper beginning of a text is refused by rule 2 at its own length, or shown.

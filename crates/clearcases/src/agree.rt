@@ -53,7 +53,7 @@ fn rows_agree(award: Award, book: SmallBook, best: Cheapest) -> bool {
     let mut i: usize = 0;
     while i < 8 {
         let row = award.rows[i];
-        if !row_agrees(row, expected(book, best, i)) {
+        if !row_agrees(row, row_of(book, best, i)) {
             return false;
         }
         i += 1;
@@ -61,7 +61,7 @@ fn rows_agree(award: Award, book: SmallBook, best: Cheapest) -> bool {
     true
 }
 
-fn expected(book: SmallBook, best: Cheapest, i: usize) -> Expected {
+fn row_of(book: SmallBook, best: Cheapest, i: usize) -> Expected {
     if book.count <= i {
         return Expected {
             bidder: 0,
@@ -74,7 +74,7 @@ fn expected(book: SmallBook, best: Cheapest, i: usize) -> Expected {
     }
     let bid = book.bids[i % 3];
     let quantity = splits::quantity(best.split, i);
-    let offer = splits::offer(bid, quantity);
+    let offer = splits::asked(bid, quantity);
     Expected {
         bidder: bid.bidder,
         segment: offer.segment,
@@ -98,8 +98,12 @@ fn sample(quantity: u64) -> u64 {
 fn row_agrees(row: Row, e: Expected) -> bool {
     let price = row.price;
     let without = row.without;
-    let numbers = (row.bidder ^ e.bidder) | (row.segment ^ e.segment) | (row.quantity.0 ^ e.quantity);
-    let amounts = (amount(price) ^ e.price) | (row.sample.0 ^ e.sample) | (total(without) ^ e.without);
+    let numbers = (row.bidder ^ e.bidder)
+        | (row.segment ^ e.segment)
+        | (row.quantity.0 ^ e.quantity);
+    let amounts = (amount(price) ^ e.price)
+        | (row.sample.0 ^ e.sample)
+        | (total(without) ^ e.without);
     (numbers | amounts) == 0
 }
 

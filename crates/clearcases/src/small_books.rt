@@ -100,7 +100,7 @@ fn segment(x: u64, before: u64) -> SmallSegment
         end: start + x / 2 % 4,
         unit,
         more: x / 96 % 3,
-        off: unit * some(x / 32 % 3, start),
+        off: cost(unit, some(x / 32 % 3, start)),
     }
 }
 
@@ -113,6 +113,19 @@ fn some(x: u64, start: u64) -> u64
         0 => start,
         1 => 1,
         _ => 0,
+    }
+}
+
+// What blanks cost at a unit price from 0 to 3, as a sum: only the price rule multiplies.
+pub fn cost(unit: u64, blanks: u64) -> u64
+    requires { ⌜ blanks ≤ 12 ⌝ }
+    ensures { λ r. ⌜ r ≤ 36 ⌝ }
+{
+    match unit {
+        0 => 0,
+        1 => blanks,
+        2 => blanks + blanks,
+        _ => blanks + blanks + blanks,
     }
 }
 

@@ -3,6 +3,7 @@
 // A split of three quantities from 0 to 8 is a number below 729: the quantities are its digits to the base 9, the last bidder's the
 // last. So the numbers from the highest down give the splits in the order that decides between equally cheap ones: the one that
 // gives the first bidder most comes first.
+use crate::small_books;
 use crate::small_books::SmallBid;
 use crate::small_books::SmallBook;
 use crate::small_books::SmallSegment;
@@ -32,7 +33,7 @@ pub fn quantity(split: u64, i: usize) -> u64 {
     }
 }
 
-pub fn offer(bid: SmallBid, quantity: u64) -> Offer {
+pub fn asked(bid: SmallBid, quantity: u64) -> Offer {
     if quantity == 0 {
         return Offer {
             segment: 0,
@@ -66,7 +67,7 @@ fn lies_on(s: SmallSegment, quantity: u64) -> bool {
 
 // What is off is at most the rest.
 fn on_segment(segment: u64, s: SmallSegment, quantity: u64) -> Offer {
-    let rest = s.unit % 4 * (quantity % 9) + s.more % 3;
+    let rest = small_books::cost(s.unit, quantity % 9) + s.more % 3;
     Offer {
         segment,
         price: std::num::wrapping_sub_u64(rest, s.off),
@@ -86,7 +87,7 @@ fn price(book: SmallBook, struck: usize, split: u64, i: usize) -> u64 {
         return NONE;
     }
     let bid = book.bids[i % 3];
-    offer(bid, quantity).price
+    asked(bid, quantity).price
 }
 
 // What a split costs, at least `NONE` where it is not offered or does not meet the demand.
