@@ -1,12 +1,49 @@
-// Runs the cases of document 01, section "Cases", that concern records, and others at the edges of
-// the rules, and prints what it gets. What it must print stands in stdout.
-// The modules are private: what is pub in them serves this program alone.
-mod check_cases;
-mod sample_cases;
-mod split_cases;
+// Runs the cases of document 01, section "Cases", and others at the edges of the rules, and prints what it gets. The cases stand in
+// stdin, which begins with how they are written, and what is to be printed in stdout.
+
+// Standard input cut into cases; answers about texts and records, and how they are printed. The modules are private: what is pub in
+// them serves this program alone.
+mod pieces;
+mod records;
+mod show;
+mod texts;
 
 fn main() {
-    check_cases::run();
-    split_cases::run();
-    sample_cases::run();
+    let mut bytes = io::large_buffer();
+    let n = io::read_full(0, &mut bytes);
+    run(&bytes[..n]);
+}
+
+// Answers each piece of the input after the first: the text or the record that it is about begins at `about`.
+fn run(bytes: &[u8]) {
+    let mut about: usize = 0;
+    let mut at = pieces::place(bytes, 0, b'%');
+    while at < bytes.len() {
+        at += 1;
+        about = subject(bytes, about, at);
+        answer(bytes, about, at);
+        at = pieces::place(bytes, at, b'%');
+    }
+}
+
+// Where the text or the record begins that the piece is about: at the piece, if it is one, or where it began before.
+fn subject(bytes: &[u8], before: usize, at: usize) -> usize {
+    match pieces::byte(bytes, at) {
+        b't' => at,
+        b'b' => at,
+        _ => before,
+    }
+}
+
+fn answer(bytes: &[u8], about: usize, at: usize) {
+    let line = pieces::line(bytes, at);
+    let body = pieces::body(bytes, about);
+    show::line(line);
+    let mut out = [b'.'; 600];
+    let size = (pieces::number(line) % 600) as usize;
+    if pieces::byte(bytes, about) == b't' {
+        texts::answer(line, body, &mut out[0..size]);
+        return;
+    }
+    records::answer(line, body, &mut out[0..size]);
 }

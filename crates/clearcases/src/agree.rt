@@ -1,63 +1,59 @@
-// Whether clearing gives what the second clearing gives: verdict, total, quantities and the totals without each bidder; and
-// zeros and `Nothing` in the rows past the bids, which are all rows beside a refusal.
+// Whether clearing gives what the second clearing gives: verdict, demand, total, and all six columns of every row; and zeros and
+// `Nothing` in the rows past the bids, which are all rows beside a refusal.
+use crate::small_books::SmallBook;
 use crate::splits;
 use crate::splits::Cheapest;
 use award::Award;
 use award::Row;
 use award::Total;
-use book::Book;
 use clearing::Clearing;
 use money::Cents;
 use refusal::Verdict;
 
-pub fn agrees(book: Book, best: Cheapest, r: Clearing) -> bool {
+// A row as it should be: amounts in cents, and `NONE` for `Nothing`.
+struct Expected {
+    bidder: u64,
+    segment: u64,
+    quantity: u64,
+    price: u64,
+    sample: u64,
+    without: u64,
+}
+
+// Beside a refusal the award is that of a book without bids and demand.
+pub fn agrees(book: SmallBook, best: Cheapest, r: Clearing) -> bool {
     let verdict = r.verdict;
-    if !verdict_agrees(verdict, best.found) {
-        return false;
-    }
     let award = r.award;
-    if !head_agrees(award, book, best) {
+    if best.total < splits::NONE {
+        return is_number(verdict, 0) && award_agrees(award, book, best);
+    }
+    let mut none = book;
+    none.demand = 0;
+    none.count = 0;
+    is_number(verdict, 9) && award_agrees(award, none, best)
+}
+
+// At place 0.
+fn is_number(verdict: Verdict, number: u64) -> bool {
+    refusal::number(verdict) == number && refusal::place(verdict) == 0
+}
+
+fn award_agrees(award: Award, book: SmallBook, best: Cheapest) -> bool {
+    let total = award.total;
+    if award.demand.0 != book.demand {
         return false;
     }
-    rows_agree(award, book, best)
-}
-
-// Accepted, or refused by rule 9 at place 0.
-fn verdict_agrees(verdict: Verdict, found: bool) -> bool {
-    if refusal::place(verdict) != 0 {
+    if award.count != book.count {
         return false;
     }
-    if found {
-        return refusal::number(verdict) == 0;
-    }
-    refusal::number(verdict) == 9
+    amount(total) == best.total % splits::NONE && rows_agree(award, book, best)
 }
 
-fn head_agrees(award: Award, book: Book, best: Cheapest) -> bool {
-    let a = award.total;
-    let b = best.total;
-    if !same_cents(a, b) {
-        return false;
-    }
-    if !best.found {
-        return award.demand.0 == 0 && award.count == 0;
-    }
-    award.demand.0 == book.demand.0 && award.count == book.count
-}
-
-fn same_cents(a: Cents, b: Cents) -> bool {
-    if money::at_most(a, b) {
-        return money::at_most(b, a);
-    }
-    false
-}
-
-fn rows_agree(award: Award, book: Book, best: Cheapest) -> bool {
-    let n = award.count;
+fn rows_agree(award: Award, book: SmallBook, best: Cheapest) -> bool {
     let mut i: usize = 0;
     while i < 8 {
         let row = award.rows[i];
-        if !row_agrees(row, book, best, i, n) {
+        if !row_agrees(row, row_of(book, best, i)) {
             return false;
         }
         i += 1;
@@ -65,50 +61,63 @@ fn rows_agree(award: Award, book: Book, best: Cheapest) -> bool {
     true
 }
 
-// Row i of n that are not blank.
-fn row_agrees(row: Row, book: Book, best: Cheapest, i: usize, n: usize) -> bool {
-    if n <= i {
-        return blank(row);
+fn row_of(book: SmallBook, best: Cheapest, i: usize) -> Expected {
+    if book.count <= i {
+        return Expected {
+            bidder: 0,
+            segment: 0,
+            quantity: 0,
+            price: 0,
+            sample: 0,
+            without: splits::NONE,
+        };
     }
-    let after = n - 1 - i;
-    if row.quantity.0 != splits::quantity(best.split, after) {
-        return false;
+    let bid = book.bids[i % 3];
+    let quantity = splits::quantity(best.split, i);
+    let offer = splits::asked(bid, quantity);
+    Expected {
+        bidder: bid.bidder,
+        segment: offer.segment,
+        quantity,
+        price: offer.price,
+        sample: sample(quantity),
+        without: splits::clear(book, i).total,
     }
-    let without = row.without;
-    without_agrees(without, splits::clear(less(book, i, n - 1)))
 }
 
-fn blank(row: Row) -> bool {
-    let without = row.without;
-    if let Total::Amount(_) = without {
-        return false;
+// The printed table as far as 8.
+fn sample(quantity: u64) -> u64 {
+    match quantity {
+        0 => 0,
+        1 => 1,
+        _ => 2,
     }
+}
+
+// Two numbers are equal if they differ in no bit.
+fn row_agrees(row: Row, e: Expected) -> bool {
     let price = row.price;
-    if !same_cents(price, Cents(0)) {
-        return false;
-    }
-    (row.bidder | row.segment | row.quantity.0 | row.sample.0) == 0
+    let without = row.without;
+    let numbers = (row.bidder ^ e.bidder)
+        | (row.segment ^ e.segment)
+        | (row.quantity.0 ^ e.quantity);
+    let amounts = (amount(price) ^ e.price)
+        | (row.sample.0 ^ e.sample)
+        | (total(without) ^ e.without);
+    (numbers | amounts) == 0
 }
 
-// The book of at most three bids less the bid with this index, so that `count` are left.
-fn less(book: Book, at: usize, count: usize) -> Book {
-    let second = book.bids[1];
-    let third = book.bids[2];
-    let mut left = book;
-    left.count = count;
-    if at < 1 {
-        left.bids[0] = second;
+fn total(without: Total) -> u64 {
+    match without {
+        Total::Amount(cents) => amount(cents),
+        Total::Nothing => splits::NONE,
     }
-    if at < 2 {
-        left.bids[1] = third;
-    }
-    left
 }
 
-fn without_agrees(without: Total, left: Cheapest) -> bool {
-    if let Total::Amount(amount) = without {
-        let total = left.total;
-        return left.found && same_cents(amount, total);
+// No amount of a small book is negative.
+fn amount(cents: Cents) -> u64 {
+    if money::at_most(Cents(0), cents) {
+        return money::magnitude(cents);
     }
-    !left.found
+    1 + splits::NONE
 }

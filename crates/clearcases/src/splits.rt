@@ -1,99 +1,137 @@
 // The second clearing: all splits of a small book are listed, and the first of the cheapest is kept.
 //
-// A split of at most three quantities from 0 to 8 is a number below 729: the quantities are its digits to the base 9, the
-// last bidder's the last. So the numbers from the highest down give the splits in the order that decides between equally
-// cheap ones: the one that gives the first bidder most comes first.
-ghost use Prim.Native.Nat.{_≤_};
-use book::Book;
-use money::Cents;
-use split::SplitPrice;
+// A split of three quantities from 0 to 8 is a number below 729: the quantities are its digits to the base 9, the last bidder's the
+// last. So the numbers from the highest down give the splits in the order that decides between equally cheap ones: the one that
+// gives the first bidder most comes first.
+use crate::small_books;
+use crate::small_books::SmallBid;
+use crate::small_books::SmallBook;
+use crate::small_books::SmallSegment;
 
-// The cheapest split, if the book has any that adds up to the demand, and whether another one costs the same.
+// The price of what is not offered.
+pub const NONE: u64 = 1_000_000_000_000;
+
+// The cheapest split and its price, `NONE` where no split meets the demand, and whether another one costs the same.
 pub struct Cheapest {
-    pub found: bool,
-    pub tie: bool,
-    pub total: Cents,
+    pub total: u64,
     pub split: u64,
+    pub tie: bool,
 }
 
-// The quantity of the bidder who has so many bidders after it.
-pub fn quantity(split: u64, after: usize) -> u64 {
-    match after {
-        0 => split % 9,
+// The number of the segment on which a quantity lies, 0 for none, and its price.
+pub struct Offer {
+    pub segment: u64,
+    pub price: u64,
+}
+
+// The quantity of the bidder with this index.
+pub fn quantity(split: u64, i: usize) -> u64 {
+    match i {
+        0 => split / 81,
         1 => split / 9 % 9,
-        _ => split / 81,
+        _ => split % 9,
     }
 }
 
-// How many of three quantities stand before those of so many bidders.
-fn unused(bidders: usize) -> usize
-    ensures { λ r. ⌜ r ≤ 3 ⌝ }
-{
-    if 3 < bidders {
+pub fn asked(bid: SmallBid, quantity: u64) -> Offer {
+    if quantity == 0 {
+        return Offer {
+            segment: 0,
+            price: 0,
+        };
+    }
+    let first = bid.first;
+    if lies_on(first, quantity) {
+        return on_segment(1, first, quantity);
+    }
+    let second = bid.second;
+    if 1 < bid.count && lies_on(second, quantity) {
+        return on_segment(2, second, quantity);
+    }
+    let third = bid.third;
+    if 2 < bid.count && lies_on(third, quantity) {
+        return on_segment(3, third, quantity);
+    }
+    Offer {
+        segment: 0,
+        price: NONE,
+    }
+}
+
+fn lies_on(s: SmallSegment, quantity: u64) -> bool {
+    if quantity < s.start {
+        return false;
+    }
+    quantity <= s.end
+}
+
+// What is off is at most the rest.
+fn on_segment(segment: u64, s: SmallSegment, quantity: u64) -> Offer {
+    let rest = small_books::cost(s.unit, quantity % 9) + s.more % 3;
+    Offer {
+        segment,
+        price: std::num::wrapping_sub_u64(rest, s.off),
+    }
+}
+
+// The price of a quantity of the bidder with this index. One who is struck or past the count has only quantity 0.
+fn price(book: SmallBook, struck: usize, split: u64, i: usize) -> u64 {
+    let quantity = quantity(split, i);
+    if quantity == 0 {
         return 0;
     }
-    3 - bidders
-}
-
-fn price(book: Book, split: u64) -> SplitPrice {
-    let quantities = [quantity(split, 2), quantity(split, 1), quantity(split, 0)];
-    let from = unused(book.count);
-    split::price_split(book, &quantities[from..])
-}
-
-// How many splits so many bidders have.
-fn splits(bidders: usize) -> u64 {
-    match bidders {
-        0 => 1,
-        1 => 9,
-        2 => 81,
-        _ => 729,
+    if i == struck {
+        return NONE;
     }
+    if book.count <= i {
+        return NONE;
+    }
+    let bid = book.bids[i % 3];
+    asked(bid, quantity).price
 }
 
-fn none() -> Cheapest {
-    Cheapest {
-        found: false,
-        tie: false,
-        total: Cents(0),
-        split: 0,
+// What a split costs, at least `NONE` where it is not offered or does not meet the demand.
+fn cost(book: SmallBook, struck: usize, split: u64) -> u64 {
+    if split % 729 / 81 + split / 9 % 9 + split % 9 != book.demand {
+        return NONE;
     }
+    let first = price(book, struck, split, 0);
+    let second = price(book, struck, split, 1);
+    let third = price(book, struck, split, 2);
+    std::num::wrapping_add_u64(std::num::wrapping_add_u64(first, second), third)
 }
 
 // The cheapest so far, and a split that gives less to the first bidder at whom the two differ.
-fn compared(best: Cheapest, split: u64, new: SplitPrice) -> Cheapest {
-    if !new.meets {
+fn compared(best: Cheapest, split: u64, total: u64) -> Cheapest {
+    if NONE <= total {
         return best;
     }
-    let total = new.price;
-    let first = Cheapest {
-        found: true,
-        tie: false,
+    if best.total < total {
+        return best;
+    }
+    if best.total == total {
+        let mut same = best;
+        same.tie = true;
+        return same;
+    }
+    Cheapest {
         total,
         split,
-    };
-    if !best.found {
-        return first;
+        tie: false,
     }
-    let cheapest = best.total;
-    if !money::at_most(cheapest, total) {
-        return first;
-    }
-    let mut same = best;
-    if money::at_most(total, cheapest) {
-        same.tie = true;
-    }
-    same
 }
 
-// The second clearing of a book. One without bids is refused as a record, and so has no split.
-pub fn clear(book: Book) -> Cheapest {
-    let mut best = none();
-    let mut split = splits(book.count);
+// The cheapest split without the bidder who is struck.
+pub fn clear(book: SmallBook, struck: usize) -> Cheapest {
+    let mut best = Cheapest {
+        total: NONE,
+        split: 0,
+        tie: false,
+    };
+    let mut split: u64 = 729;
     while 0 < split {
         split -= 1;
-        let new = price(book, split);
-        best = compared(best, split, new);
+        best = compared(best, split, cost(book, struck, split));
     }
     best
 }
