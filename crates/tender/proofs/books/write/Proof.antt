@@ -1,44 +1,38 @@
+-- Beside a refusal of the text nothing is written; else its book, which is accepted itself, so that only a short output is refused.
+use mathlib.Core.List.{List}
+use mathlib.Core.Path.{sym, ap, _∙_}
+use Prim.Native.Nat.{ℕ}
 use borrow.Author.Needs.{needs}
+use Rattle.book.specs.Entries.{bookEntries}
+use Rattle.book.specs.Rules.{bookVerdict}
+use Rattle.booktext.specs.BookText.{bookText}
+use Rattle.reader.specs.declared.BookRead.{BookRead}
+use Rattle.roundtrip.proofs.Back.{book-accepted}
 use Rattle.tender.specs.FromText.{bookWritten, bookOutput}
-use Rattle.tender.proofs.Answers.{book-refused, book-rewritten}
+use Rattle.tender.proofs.Answers.{none-written, text-written}
 use Rattle.tender.proofs.books.write.Statement.{statement}
 use Rattle.tender.proofs.books.write.Tie as tie
 
-read-requires : tie.Need-read-requires
-read-requires c κs = search needs
-
-enum-told : tie.Need-enum-told
-enum-told c = search needs
-
-refused-requires : tie.Need-refused-requires
-refused-requires c κs = search needs
+abbrev text : BookRead → List ℕ
+text read = bookText (bookEntries (read .book))
 
 returns : tie.Need-returns
 unfolding bookWritten bookOutput
 returns c =
-    let answer = c .refused in
-    let told = c .before .enum-told .given in
-    let read = c .before .before .before .read in
-    book-refused _ (read .result) (read .ensures) (told .0 .0) (told .0 .1 .0) (told .1) _ (answer .result) (answer .ensures)
-
-enum-told-2 : tie.Need-enum-told-2
-enum-told-2 c = search needs
-
-write-requires : tie.Need-write-requires
-write-requires c κs = search needs
-
-same-length : tie.Need-same-length
-same-length c = search needs
+    let is = c .before .before .before .read .ensures in
+    none-written (λ (r : BookRead). r .verdict) is (c .before .enum-told .given .1) text _ (c .refused .ensures)
 
 returns-2 : tie.Need-returns-2
 unfolding bookWritten bookOutput
 returns-2 c =
     let write = c .before .before .write in
     let told = c .before .before .before .before .before in
-    let read = told .before .before .read in
-    book-rewritten _ (read .result) (read .ensures) (told .enum-told2 .given .1) _ (write .result) (write .last .1 .0) (write .ensures)
+    let is = told .before .before .read .ensures in
+    let here = told .enum-told2 .given .1 in
+    let accepted = ap (λ (r : BookRead). bookVerdict (bookEntries (r .book))) is ∙ book-accepted _ (ap (λ (r : BookRead). r .verdict) (sym is) ∙ here) in
+    text-written (λ (r : BookRead). r .verdict) is here text _ (rw accepted at (write .ensures))
 
 pub write-spec : {M : Type 1} → statement M
 write-spec =
     tie.close
-    (tie.spec read-requires enum-told refused-requires returns enum-told-2 write-requires same-length returns-2)
+    (tie.spec (λ c κs. search needs) (λ c. search needs) (λ c κs. search needs) returns (λ c. search needs) (λ c κs. search needs) (λ c. search needs) returns-2)
