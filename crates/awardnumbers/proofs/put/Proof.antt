@@ -51,6 +51,8 @@ put-spec =
     (λ c. search needs)
     (λ c. search needs)
     (λ c. search needs)
+    (λ c. search needs)
+    (λ c. search needs)
     loop-again
     (λ c. c .before .loop .inv .1)
     returns)
