@@ -11,12 +11,12 @@ pub refusal-given : {A : Type 0} (verdict : A → Verdict) {answer stated : A} �
     → number ≡ numberOf (verdict answer)
     → place ≡ placeOf (verdict answer)
     → (number ≡ numberOf (verdict stated)) × (place ≡ placeOf (verdict stated))
-refusal-given verdict is n p = rw is at (n, p)
+refusal-given verdict is n p = (rw is at n, rw is at p)
 
 pub text-given : {answer stated : TextWritten} {exit output : List ℕ} → (answer ≡ stated) × (exit ≡ output) → {number place : ℕ}
     → number ≡ numberOf (answer .verdict)
     → place ≡ placeOf (answer .verdict)
-    → (number ≡ numberOf (stated .verdict)) × (place ≡ placeOf (stated .verdict)) × (answer .bytes ≡ stated .bytes) × (exit ≡ output)
+    → (number ≡ numberOf (stated .verdict)) × ((place ≡ placeOf (stated .verdict)) × ((answer .bytes ≡ stated .bytes) × (exit ≡ output)))
 text-given (is, left) n p =
     let (number, place) = refusal-given (λ (w : TextWritten). w .verdict) is n p in
-    (number, place, ap (λ (w : TextWritten). w .bytes) is, left)
+    (number, (place, (ap (λ (w : TextWritten). w .bytes) is, left)))

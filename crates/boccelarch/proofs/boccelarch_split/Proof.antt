@@ -21,7 +21,7 @@ returns c =
     let (number, place) = refusal-given (λ (s : SplitPrice). s .verdict) is (c .number .ensures) (c .before .before .before .place .ensures) in
     let price = toZ-ofZ (fits c) ∙ ap (λ (s : SplitPrice). s .price .0) is in
     let meets = as-number (split .result .meets) ∙ ap (λ (s : SplitPrice). cond (s .meets) 1 0) is in
-    (number, place, price, meets)
+    (number, (place, (price, meets)))
 
 pub boccelarch-split-spec : {M : Type 1} → statement M
 boccelarch-split-spec =
