@@ -8,7 +8,8 @@ use Rattle.refusal.specs.declared.Verdict.the-variants.{Accepted, Refused}
 use Rattle.reader.specs.Reading.{readOf}
 use Rattle.clearing.specs.declared.Clearing.{Clearing}
 use Rattle.cleared.proofs.Counts.{few-rows}
-use Rattle.tender.specs.FromText.{bookOf, clearText}
+use Rattle.bookanswers.specs.BookAnswers.{bookOf}
+use Rattle.tender.specs.FromText.{clearText}
 
 pub few : (t : List ℕ) → clearText t .verdict ≡ Accepted → clearText t .award .count ≤ 8
 unfolding clearText

@@ -4,7 +4,8 @@ ghost use mathlib.Core.Path.{_≡_};
 ghost use mathlib.Core.Bool.{cond};
 ghost use lib.ListN.{length};
 ghost use Rattle.refusal.specs.Number.{numberOf, placeOf};
-ghost use Rattle.tender.specs.FromText.{sheetWritten, sheetOutput, bookWritten, bookOutput, roomText, splitText};
+ghost use Rattle.bookanswers.specs.BookAnswers.{bookWritten, bookOutput, roomText, splitText};
+ghost use Rattle.tender.specs.FromText.{sheetWritten, sheetOutput};
 ghost use Rattle.awardnumbers.specs.Numbers.{awardVerdict, awardTotal, awardCount, awardOutput};
 
 // The award sheet of a book, and its length.

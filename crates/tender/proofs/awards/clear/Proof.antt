@@ -6,7 +6,7 @@ use Rattle.reader.specs.declared.BookRead.{BookRead}
 use Rattle.clearing.specs.declared.Clearing.{Clearing}
 use Rattle.clearing.specs.Clearing.{clearOf, refusedClearing}
 use Rattle.tender.specs.FromText.{clearText}
-use Rattle.tender.proofs.Answers.{if-refused, if-accepted}
+use Rattle.bookanswers.proofs.Answers.{if-refused, if-accepted}
 use Rattle.tender.proofs.awards.clear.Statement.{statement}
 use Rattle.tender.proofs.awards.clear.Tie as tie
 

@@ -5,7 +5,7 @@ use borrow.Author.Needs.{needs}
 use Rattle.sheettext.specs.Sheet.{sheetText, refusalText}
 use Rattle.clearing.specs.declared.Clearing.{Clearing}
 use Rattle.tender.specs.FromText.{printedText}
-use Rattle.tender.proofs.Answers.{if-refused, if-accepted}
+use Rattle.bookanswers.proofs.Answers.{if-refused, if-accepted, same-text}
 use Rattle.tender.proofs.prints.print.Statement.{statement}
 use Rattle.tender.proofs.prints.print.Tie as tie
 
@@ -20,14 +20,14 @@ unfolding printedText
 returns c =
     let told = c .before .before .before .before in
     let is = told .before .before .clear .ensures in
-    rw (if-refused (λ (r : Clearing). r .verdict) is (told .enum-told .given .1) accepted refused) at (c .before .before .write-refusal .ensures)
+    same-text (if-refused (λ (r : Clearing). r .verdict) is (told .enum-told .given .1) accepted refused) _ (c .before .before .write-refusal .ensures)
 
 returns-2 : tie.Need-returns-2
 unfolding printedText
 returns-2 c =
     let told = c .before .before .before .before .before in
     let is = told .before .before .clear .ensures in
-    rw (if-accepted (λ (r : Clearing). r .verdict) is (told .enum-told2 .given .1) accepted refused) at (c .before .before .write .ensures)
+    same-text (if-accepted (λ (r : Clearing). r .verdict) is (told .enum-told2 .given .1) accepted refused) _ (c .before .before .write .ensures)
 
 pub print-spec : {M : Type 1} → statement M
 print-spec =

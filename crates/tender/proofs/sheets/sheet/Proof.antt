@@ -1,11 +1,12 @@
 -- Beside a refusal of the text nothing is written; else the sheet of its award.
 use mathlib.Core.List.{List}
 use Prim.Native.Nat.{ℕ}
+use mathlib.Core.Path.{refl}
 use borrow.Author.Needs.{needs}
 use Rattle.sheettext.specs.Sheet.{sheetText}
 use Rattle.clearing.specs.declared.Clearing.{Clearing}
 use Rattle.tender.specs.FromText.{sheetWritten, sheetOutput}
-use Rattle.tender.proofs.Answers.{none-written, text-written}
+use Rattle.bookanswers.proofs.Answers.{none-written, text-written}
 use Rattle.tender.proofs.sheets.sheet.Statement.{statement}
 use Rattle.tender.proofs.sheets.sheet.Tie as tie
 
@@ -24,7 +25,7 @@ returns-2 c =
     let write = c .before .before .write in
     let told = c .before .before .before .before .before in
     let is = told .before .before .clear .ensures in
-    text-written (λ (r : Clearing). r .verdict) is (told .enum-told2 .given .1) text _ (write .ensures)
+    text-written (λ (r : Clearing). r .verdict) is (told .enum-told2 .given .1) text _ refl (write .ensures)
 
 pub sheet-spec : {M : Type 1} → statement M
 sheet-spec =

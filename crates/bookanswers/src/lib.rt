@@ -1,7 +1,8 @@
-// The book of a text: written out again, its room figure, and the price of a proposed split of it.
+// What is answered about the book of a text: the book written out again, its room figure, and the price of a proposed split of it.
+// Each is refused first as reading refuses the text. The entries are `tender`'s.
 ghost use mathlib.Core.Path.{_≡_};
 ghost use lib.ListN.{length};
-ghost use Rattle.tender.specs.FromText.{bookWritten, bookOutput, roomText, splitText};
+ghost use Rattle.bookanswers.specs.BookAnswers.{bookWritten, bookOutput, roomText, splitText};
 use book::RoomFigure;
 use output::TextWritten;
 use refusal::Verdict;

@@ -8,10 +8,10 @@ use Rattle.book.specs.Rules.{bookVerdict}
 use Rattle.booktext.specs.BookText.{bookText}
 use Rattle.reader.specs.declared.BookRead.{BookRead}
 use Rattle.roundtrip.proofs.Back.{book-accepted}
-use Rattle.tender.specs.FromText.{bookWritten, bookOutput}
-use Rattle.tender.proofs.Answers.{none-written, text-written}
-use Rattle.tender.proofs.books.write.Statement.{statement}
-use Rattle.tender.proofs.books.write.Tie as tie
+use Rattle.bookanswers.specs.BookAnswers.{bookWritten, bookOutput}
+use Rattle.bookanswers.proofs.Answers.{none-written, text-written}
+use Rattle.bookanswers.proofs.write.Statement.{statement}
+use Rattle.bookanswers.proofs.write.Tie as tie
 
 abbrev text : BookRead → List ℕ
 text read = bookText (bookEntries (read .book))
@@ -30,7 +30,7 @@ returns-2 c =
     let is = told .before .before .read .ensures in
     let here = told .enum-told2 .given .1 in
     let accepted = ap (λ (r : BookRead). bookVerdict (bookEntries (r .book))) is ∙ book-accepted _ (ap (λ (r : BookRead). r .verdict) (sym is) ∙ here) in
-    text-written (λ (r : BookRead). r .verdict) is here text _ (rw accepted at (write .ensures))
+    text-written (λ (r : BookRead). r .verdict) is here text _ accepted (write .ensures)
 
 pub write-spec : {M : Type 1} → statement M
 write-spec =

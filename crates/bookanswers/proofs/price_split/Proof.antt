@@ -7,10 +7,10 @@ use Rattle.book.specs.Entries.{bookEntries}
 use Rattle.reader.specs.declared.BookRead.{BookRead}
 use Rattle.split.specs.declared.SplitPrice.{SplitPrice}
 use Rattle.split.specs.Split.{splitOf, refusedSplit}
-use Rattle.tender.specs.FromText.{splitText}
-use Rattle.tender.proofs.Answers.{if-refused, if-accepted}
-use Rattle.tender.proofs.books.price_split.Statement.{statement}
-use Rattle.tender.proofs.books.price_split.Tie as tie
+use Rattle.bookanswers.specs.BookAnswers.{splitText}
+use Rattle.bookanswers.proofs.Answers.{if-refused, if-accepted}
+use Rattle.bookanswers.proofs.price_split.Statement.{statement}
+use Rattle.bookanswers.proofs.price_split.Tie as tie
 
 abbrev accepted : List ℕ → BookRead → SplitPrice
 accepted quantities read = splitOf (bookEntries (read .book)) quantities

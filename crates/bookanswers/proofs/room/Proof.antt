@@ -5,10 +5,10 @@ use Rattle.book.specs.declared.RoomFigure.{RoomFigure}
 use Rattle.book.specs.Entries.{bookEntries}
 use Rattle.book.specs.Room.{roomOf}
 use Rattle.reader.specs.declared.BookRead.{BookRead}
-use Rattle.tender.specs.FromText.{roomText}
-use Rattle.tender.proofs.Answers.{if-refused, if-accepted}
-use Rattle.tender.proofs.books.room.Statement.{statement}
-use Rattle.tender.proofs.books.room.Tie as tie
+use Rattle.bookanswers.specs.BookAnswers.{roomText}
+use Rattle.bookanswers.proofs.Answers.{if-refused, if-accepted}
+use Rattle.bookanswers.proofs.room.Statement.{statement}
+use Rattle.bookanswers.proofs.room.Tie as tie
 
 abbrev accepted : BookRead → RoomFigure
 accepted read = roomOf (bookEntries (read .book))

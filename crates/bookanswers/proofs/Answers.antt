@@ -10,7 +10,7 @@ use Rattle.output.specs.declared.TextWritten.{TextWritten}
 use Rattle.output.specs.Writing.{notWritten}
 use Rattle.output.proofs.Answers.{Answered, refused-before}
 
--- Every function of the crate begins with the same test. `work` is what it has, a book read from the text or the text cleared, and
+-- Every function that answers about a text begins with the same test. `work` is what it has, a book read from the text or the text cleared, and
 -- `stated` what the contract says that this is.
 module _ {A : Type 0} (verdict : A → Verdict) {work stated : A} (is : work ≡ stated) where
   module _ {rule : Rule} {place : ℕ} (told : verdict work ≡ Refused rule place) where
@@ -28,7 +28,13 @@ module _ {A : Type 0} (verdict : A → Verdict) {work stated : A} (is : work ≡
     pub if-accepted : {B : Type 0} (accepted refused : A → B) → accepted work ≡ whenAccepted (verdict stated) (accepted stated) (refused stated)
     if-accepted accepted refused = rw (← is, told)
 
-    -- and the text that is written is its text
-    pub text-written : (text : A → List ℕ) (out : List ℕ) {answer : TextWritten} {exit : List ℕ} → Answered Accepted (text work) out answer exit
+    -- and the text that is written, where its writer refuses nothing itself, is its text
+    pub text-written : (text : A → List ℕ) (out : List ℕ) {before : Verdict} → before ≡ Accepted → {answer : TextWritten} {exit : List ℕ}
+        → Answered before (text work) out answer exit
         → Answered (verdict stated) (text stated) out answer exit
-    text-written text out h = rw (← is, told) h
+    text-written text out e h = rw (← is, told, ← e) h
+
+-- a text that was written, said in other words
+pub same-text : {a b : List ℕ} → a ≡ b → (out : List ℕ) {answer : TextWritten} {exit : List ℕ} → Answered Accepted a out answer exit
+    → Answered Accepted b out answer exit
+same-text e out h = rw (← e) h
