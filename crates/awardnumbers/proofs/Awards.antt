@@ -11,9 +11,10 @@ use Rattle.refusal.specs.declared.Verdict.{Verdict}
 use Rattle.refusal.specs.declared.Verdict.the-variants.{Accepted, Refused}
 use Rattle.printer.specs.Written.{written}
 use Rattle.clearing.specs.declared.Clearing.{Clearing}
+use Rattle.rownumbers.specs.RowNumbers.{awardNumbers}
 use Rattle.tender.specs.FromText.{clearText}
 use Rattle.awardnumbers.specs.declared.AwardNumbers.{AwardNumbers}
-use Rattle.awardnumbers.specs.Numbers.{awardNumbers, awardVerdict, awardAnswer, awardOutput}
+use Rattle.awardnumbers.specs.Numbers.{awardVerdict, awardAnswer, awardOutput}
 
 -- the answer and the list at exit are those that are stated
 abbrev pub Answered : List ℕ → List ℕ → AwardNumbers → List ℕ → Type 0

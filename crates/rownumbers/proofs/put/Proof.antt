@@ -8,8 +8,8 @@ use borrow.Author.Needs.{needs}
 use lib.ListN.{length, getD, set, length-set}
 use lib.Seq.{paste, paste-zero, paste-suc}
 use Rattle.printer.proofs.Written.{written-paste}
-use Rattle.awardnumbers.proofs.put.Statement.{statement}
-use Rattle.awardnumbers.proofs.put.Tie as tie
+use Rattle.rownumbers.proofs.put.Statement.{statement}
+use Rattle.rownumbers.proofs.put.Tie as tie
 
 abbrev Inv-loop : tie.InvT-loop
 Inv-loop rows₀ at numbers i₀ rows i = (i ≤ length numbers) × (length rows ≡ length rows₀) × (rows ≡ paste rows₀ at numbers i)

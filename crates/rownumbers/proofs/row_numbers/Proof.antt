@@ -1,8 +1,8 @@
 -- Each number stands in its column, as what is called gives it.
 use borrow.Author.Needs.{needs}
-use Rattle.awardnumbers.specs.Numbers.{rowNumbers}
-use Rattle.awardnumbers.proofs.row_numbers.Statement.{statement}
-use Rattle.awardnumbers.proofs.row_numbers.Tie as tie
+use Rattle.rownumbers.specs.RowNumbers.{rowNumbers}
+use Rattle.rownumbers.proofs.row_numbers.Statement.{statement}
+use Rattle.rownumbers.proofs.row_numbers.Tie as tie
 
 returns : tie.Need-returns
 unfolding rowNumbers

@@ -9,7 +9,7 @@ use Rattle.lists.specs.Joined.{joined}
 use Rattle.printer.specs.Written.{written}
 use Rattle.printer.proofs.Written.{wrote-next}
 use Rattle.award.specs.declared.Row.{Row}
-use Rattle.awardnumbers.specs.Numbers.{rowNumbers}
+use Rattle.rownumbers.specs.RowNumbers.{rowNumbers}
 
 pub row-size : (row : Row) → length (rowNumbers row) ≡ 7
 unfolding rowNumbers

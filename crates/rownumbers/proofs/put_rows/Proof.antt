@@ -8,10 +8,10 @@ use Rattle.lists.specs.Joined.{joined}
 use Rattle.lists.proofs.Slices.{length-held}
 use Rattle.printer.specs.Written.{written}
 use Rattle.printer.proofs.Written.{wrote-none}
-use Rattle.awardnumbers.specs.Numbers.{rowNumbers, awardNumbers}
-use Rattle.awardnumbers.proofs.Rows.{row-size, next-row}
-use Rattle.awardnumbers.proofs.put_rows.Statement.{statement}
-use Rattle.awardnumbers.proofs.put_rows.Tie as tie
+use Rattle.rownumbers.specs.RowNumbers.{rowNumbers, awardNumbers}
+use Rattle.rownumbers.proofs.Rows.{row-size, next-row}
+use Rattle.rownumbers.proofs.put_rows.Statement.{statement}
+use Rattle.rownumbers.proofs.put_rows.Tie as tie
 
 abbrev Inv-loop : tie.InvT-loop
 Inv-loop rows₀ award i₀ rows i =
