@@ -1,4 +1,2 @@
-pub mod Rows
-pub mod Counts
-pub mod Awards
 pub mod Casts
+pub mod Given

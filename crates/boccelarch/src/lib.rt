@@ -1,14 +1,12 @@
 // The entries for C. Each takes the bytes of a bid book, gives the number of the refusal (0 where nothing is refused), and puts its
-// place and the other results behind references. What they answer is worked out in `tender`.
+// place and the other results behind references. What they answer is worked out in `tender` and `awardnumbers`.
 ghost use mathlib.Core.Path.{_≡_};
 ghost use mathlib.Core.Bool.{cond};
 ghost use lib.ListN.{length};
 ghost use Rattle.refusal.specs.Number.{numberOf, placeOf};
-ghost use Rattle.tender.specs.FromText.{sheetWritten, sheetOutput, bookWritten, bookOutput, roomText, splitText};
-ghost use Rattle.boccelarch.specs.Numbers.{awardVerdict, awardTotal, awardCount, awardOutput};
-
-// An award as numbers. The module is private: what is pub in it serves this crate alone.
-mod numbers;
+ghost use Rattle.bookanswers.specs.BookAnswers.{bookWritten, bookOutput, roomText, splitText};
+ghost use Rattle.tender.specs.FromText.{sheetWritten, sheetOutput};
+ghost use Rattle.awardnumbers.specs.Numbers.{awardVerdict, awardTotal, awardCount, awardOutput};
 
 // The award sheet of a book, and its length.
 #[no_mangle]
@@ -102,7 +100,7 @@ pub extern "C" fn boccelarch_award(
     ensures { λ _. ⌜ now (count .exit) ≡ awardCount (now (text .entry)) (length (now (rows .entry))) ⌝ }
     ensures { λ _. ⌜ now (rows .exit) ≡ awardOutput (now (text .entry)) (now (rows .entry)) ⌝ }
 {
-    let answer = numbers::award(text, rows);
+    let answer = awardnumbers::award(text, rows);
     let verdict = answer.verdict;
     *place = refusal::place(verdict);
     *total = answer.total;

@@ -3,10 +3,6 @@ ghost use mathlib.Core.Path.{_≡_};
 ghost use Prim.Native.Nat.{_≤_};
 ghost use lib.ListN.{length, take};
 ghost use Rattle.tender.specs.FromText.{printedText};
-
-// Reading. The module is private: what is pub in it serves this program alone.
-mod input;
-
 use input::Input;
 use libc::STDOUT_FILENO;
 

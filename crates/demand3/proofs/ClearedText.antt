@@ -23,7 +23,8 @@ use Rattle.clearing.specs.Clearing.{awardOfBook, bookWithout, totalOf, awardRec
 use Rattle.cleared.specs.Awarded.{rowAt, awarded}
 use Rattle.cleared.proofs.Answers.{cleared}
 use Rattle.cleared.proofs.Demand3.{award-of-book, no-award-of-book, no-other-cheaper, one-inside, row-is, without-is}
-use Rattle.tender.specs.FromText.{bookOf, clearText}
+use Rattle.bookanswers.specs.BookAnswers.{bookOf}
+use Rattle.tender.specs.FromText.{clearText}
 use Rattle.demand3.specs.TheAward.{TotalOf, bidAt, TheAward}
 use Rattle.demand3.specs.Outcome.{AcceptedText}
 

@@ -37,7 +37,8 @@ use Rattle.clearing.specs.declared.Clearing.{Clearing}
 use Rattle.clearing.specs.Clearing.{clearOf}
 use Rattle.cleared.specs.Awarded.{rowsOf, rowAt}
 use Rattle.cleared.proofs.Costs.{NotNegative, UpTo, mostTotal}
-use Rattle.tender.specs.FromText.{bookOf, clearText, sheetWritten, printedText}
+use Rattle.bookanswers.specs.BookAnswers.{bookOf}
+use Rattle.tender.specs.FromText.{clearText, sheetWritten, printedText}
 use Rattle.demand3.proofs.Places.{UpToNine, up-to-nine}
 use Rattle.demand3.proofs.ClearedText.{the-award, cleared-book, was-read, record-cleared, eight-bids}
 use Rattle.cleared.proofs.Amounts.{TotalUpTo, RowUpTo, demand-up-to, total-from-zero, rows-up-to}

@@ -25,7 +25,8 @@ use Rattle.clearing.specs.Clearing.{clearOf}
 use Rattle.cleared.specs.OfBook.{DivisionOf}
 use Rattle.cleared.specs.Awarded.{awarded}
 use Rattle.cleared.proofs.Demand3.{covered-iff, not-covered-iff}
-use Rattle.tender.specs.FromText.{bookOf, clearText, sheetWritten, sheetOutput}
+use Rattle.bookanswers.specs.BookAnswers.{bookOf}
+use Rattle.tender.specs.FromText.{clearText, sheetWritten, sheetOutput}
 use Rattle.demand3.specs.TheAward.{TheAward}
 use Rattle.demand3.specs.Outcome.{textVerdict, TextSays, AcceptedText, NoSheet, SheetOf}
 use Rattle.demand3.proofs.ClearedText.{cleared-book, its-award}

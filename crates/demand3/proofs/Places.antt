@@ -23,7 +23,8 @@ use Rattle.divisions.specs.Award.{Priced}
 use Rattle.clearing.specs.declared.Clearing.{Clearing}
 use Rattle.clearing.specs.Clearing.{awardOfBook, clearOf}
 use Rattle.clearing.proofs.Answers.{no-division, division}
-use Rattle.tender.specs.FromText.{bookOf, clearText}
+use Rattle.bookanswers.specs.BookAnswers.{bookOf}
+use Rattle.tender.specs.FromText.{clearText}
 
 abbrev pub UpToNine : Verdict → Type 0
 UpToNine Accepted = Unit {0}

@@ -4,7 +4,8 @@ use mathlib.Core.Path.{_≡_, refl}
 use Prim.Native.Nat.{ℕ}
 use Rattle.refusal.specs.declared.Verdict.{Verdict}
 use Rattle.refusal.specs.declared.Verdict.the-variants.{Accepted, Refused}
-use Rattle.tender.specs.FromText.{bookOf, clearText, printedText}
+use Rattle.bookanswers.specs.BookAnswers.{bookOf}
+use Rattle.tender.specs.FromText.{clearText, printedText}
 use Rattle.demand3.specs.Outcome.{Printed, its-sheet, its-refusal}
 use Rattle.demand3.proofs.ClearedText.{accepted-text, was-read, its-award}
 use Rattle.demand3.proofs.Whole.{no-sheet}

@@ -30,7 +30,8 @@ use Rattle.clearing.specs.declared.Clearing.{Clearing}
 use Rattle.clearing.specs.Clearing.{awardOfBook, clearOf}
 use Rattle.clearing.proofs.Answers.{no-division, division}
 use Rattle.cleared.proofs.Demand3.{no-award-of-book}
-use Rattle.tender.specs.FromText.{bookOf, clearText, sheetWritten, sheetOutput}
+use Rattle.bookanswers.specs.BookAnswers.{bookOf}
+use Rattle.tender.specs.FromText.{clearText, sheetWritten, sheetOutput}
 use Rattle.demand3.proofs.ClearedText.{cleared-book, accepted-text, was-read, its-award}
 use Rattle.demand3.specs.Outcome.{AcceptedText, NoSheet, Outcome, too-long, not-of-shape as other-shape, broken, not-covered, output-short, sheet}
 

@@ -31,4 +31,4 @@ abbrev pub notWritten : Verdict → TextWritten
 notWritten verdict = record { verdict = verdict; bytes = 0 }
 
 abbrev pub allWritten : ℕ → TextWritten
-allWritten length = record { verdict = Accepted; bytes = length }
+allWritten bytes = record { verdict = Accepted; bytes = bytes }

@@ -27,11 +27,11 @@ pub fn too_short(needed: usize) -> TextWritten
 }
 
 // The whole text was written.
-pub fn whole(length: usize) -> TextWritten
-    ensures { λ r. ⌜ r ≡ allWritten length ⌝ }
+pub fn whole(bytes: usize) -> TextWritten
+    ensures { λ r. ⌜ r ≡ allWritten bytes ⌝ }
 {
     TextWritten {
         verdict: Verdict::Accepted,
-        bytes: length as u64,
+        bytes: bytes as u64,
     }
 }

@@ -1,15 +1,14 @@
 // What the society's mints and the tender site ask for, from the text of a bid book: the award and its sheet, the book written out
 // again, the room figure, and the price of a proposed split. Each is refused first as reading refuses the text.
 
-// The modules are private: the functions named here are the entries.
+// The modules are private: the functions named here are the entries. Those of `bookanswers` clear nothing.
 mod awards;
-mod books;
 mod prints;
 mod sheets;
 
 pub use awards::clear;
-pub use books::price_split;
-pub use books::room;
-pub use books::write;
+pub use bookanswers::price_split;
+pub use bookanswers::room;
+pub use bookanswers::write;
 pub use prints::print;
 pub use sheets::sheet;

@@ -1,27 +1,16 @@
-use mathlib.Core.Path.{ap, _∙_}
+-- What `tender::room` answers is handed on.
+use mathlib.Core.Path.{ap}
 use borrow.Author.Needs.{needs}
-use Rattle.refusal.specs.Number.{numberOf, placeOf}
 use Rattle.book.specs.declared.RoomFigure.{RoomFigure}
+use Rattle.boccelarch.proofs.Given.{refusal-given}
 use Rattle.boccelarch.proofs.boccelarch_room.Statement.{statement}
 use Rattle.boccelarch.proofs.boccelarch_room.Tie as tie
 
-room-requires : tie.Need-room-requires
-room-requires c κs = search needs
-
-place-requires : tie.Need-place-requires
-place-requires c κs = search needs
-
-number-requires : tie.Need-number-requires
-number-requires c κs = search needs
-
 returns : tie.Need-returns
 returns c =
-    let room = c .before .before .room in
-    let verdict = ap (λ (f : RoomFigure). f .verdict) (room .ensures) in
-    let number = c .number .ensures ∙ ap numberOf verdict in
-    let place = c .before .place .ensures ∙ ap placeOf verdict in
-    let bytes = ap (λ (f : RoomFigure). f .bytes) (room .ensures) in
-    (number, (place, bytes))
+    let is = c .before .before .room .ensures in
+    let (number, place) = refusal-given (λ (f : RoomFigure). f .verdict) is (c .number .ensures) (c .before .place .ensures) in
+    (number, (place, ap (λ (f : RoomFigure). f .bytes) is))
 
 pub boccelarch-room-spec : {M : Type 1} → statement M
-boccelarch-room-spec = tie.close (tie.spec room-requires place-requires number-requires returns)
+boccelarch-room-spec = tie.close (tie.spec (λ c κs. search needs) (λ c κs. search needs) (λ c κs. search needs) returns)

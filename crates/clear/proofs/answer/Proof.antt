@@ -1,13 +1,8 @@
+-- 600 bytes hold what is printed for every text, so that all of it is written.
 use borrow.Author.Needs.{needs}
 use Rattle.clear.proofs.Printed.{all-printed}
 use Rattle.clear.proofs.answer.Statement.{statement}
 use Rattle.clear.proofs.answer.Tie as tie
-
-print-requires : tie.Need-print-requires
-print-requires c κs = search needs
-
-same-length : tie.Need-same-length
-same-length c = search needs
 
 returns : tie.Need-returns
 returns c =
@@ -16,4 +11,4 @@ returns c =
     all-printed (s .args .text .now) (s .args .out .now) (s .pre) (p .result) (p .last .1 .0) (p .kept .1 .0) (p .ensures)
 
 pub answer-spec : {M : Type 1} → statement M
-answer-spec = tie.close (tie.spec print-requires same-length returns)
+answer-spec = tie.close (tie.spec (λ c κs. search needs) (λ c. search needs) returns)

@@ -1,48 +1,35 @@
+-- Beside a refusal of the text stands no award; else its book is cleared.
 use mathlib.Core.Path.{_∙_}
 use borrow.Author.Needs.{needs}
+use Rattle.book.specs.Entries.{bookEntries}
+use Rattle.reader.specs.declared.BookRead.{BookRead}
+use Rattle.clearing.specs.declared.Clearing.{Clearing}
 use Rattle.clearing.specs.Clearing.{clearOf, refusedClearing}
 use Rattle.tender.specs.FromText.{clearText}
-use Rattle.tender.proofs.Answers.{text-refused, text-accepted}
+use Rattle.bookanswers.proofs.Answers.{if-refused, if-accepted}
 use Rattle.tender.proofs.awards.clear.Statement.{statement}
 use Rattle.tender.proofs.awards.clear.Tie as tie
 
-read-requires : tie.Need-read-requires
-read-requires c κs = search needs
+abbrev accepted : BookRead → Clearing
+accepted read = clearOf (bookEntries (read .book))
 
-enum-told : tie.Need-enum-told
-enum-told c = search needs
-
-refused-requires : tie.Need-refused-requires
-refused-requires c κs = search needs
+abbrev refused : BookRead → Clearing
+refused read = refusedClearing (read .verdict)
 
 returns : tie.Need-returns
 unfolding clearText
 returns c =
-    let told = c .before .enum-told .given in
-    let read = c .before .before .before .read in
-    c .refused .ensures ∙ text-refused _ (read .result) (read .ensures) (told .0 .0) (told .0 .1 .0) (told .1) clearOf refusedClearing
-
-enum-told-2 : tie.Need-enum-told-2
-enum-told-2 c = search needs
-
-clear-requires : tie.Need-clear-requires
-clear-requires c κs = search needs
+    let is = c .before .before .before .read .ensures in
+    c .refused .ensures ∙ if-refused (λ (r : BookRead). r .verdict) is (c .before .enum-told .given .1) accepted refused
 
 returns-2 : tie.Need-returns-2
 unfolding clearText
 returns-2 c =
     let told = c .before .before in
-    let read = told .before .before .read in
-    c .clear .ensures ∙ text-accepted _ (read .result) (read .ensures) (told .enum-told2 .given .1) clearOf refusedClearing
+    let is = told .before .before .read .ensures in
+    c .clear .ensures ∙ if-accepted (λ (r : BookRead). r .verdict) is (told .enum-told2 .given .1) accepted refused
 
 pub clear-spec : {M : Type 1} → statement M
 clear-spec =
     tie.close
-    (tie.spec
-    read-requires
-    enum-told
-    refused-requires
-    returns
-    enum-told-2
-    clear-requires
-    returns-2)
+    (tie.spec (λ c κs. search needs) (λ c. search needs) (λ c κs. search needs) returns (λ c. search needs) (λ c κs. search needs) returns-2)

@@ -1,0 +1,47 @@
+// The award of a text as numbers: what C gets.
+ghost use mathlib.Core.Path.{_≡_};
+ghost use lib.ListN.{length};
+ghost use Rattle.awardnumbers.specs.Numbers.{awardAnswer, awardOutput};
+use refusal::Rule;
+use refusal::Verdict;
+
+// The total of an award and the number of its bids; zeros beside a refusal.
+pub struct AwardNumbers {
+    pub verdict: Verdict,
+    pub total: u64,
+    pub count: u64,
+}
+
+fn refused(verdict: Verdict) -> AwardNumbers
+    ensures { λ r. ⌜ r ≡ record { verdict = verdict; total = 0; count = 0 } ⌝ }
+{
+    AwardNumbers {
+        verdict,
+        total: 0,
+        count: 0,
+    }
+}
+
+// The award of a text's book: refused as the text is cleared, then by 10 with the bytes needed. With a refusal the list is unchanged.
+pub fn award(text: &[u8], rows: &mut [u64]) -> AwardNumbers
+    ensures { λ r. ⌜ r ≡ awardAnswer (now (text .entry)) (length (now (rows .entry))) ⌝ }
+    ensures { λ _. ⌜ now (rows .exit) ≡ awardOutput (now (text .entry)) (now (rows .entry)) ⌝ }
+{
+    let cleared = tender::clear(text);
+    let verdict = cleared.verdict;
+    if let Verdict::Refused(_, _) = verdict {
+        return refused(verdict);
+    }
+    let award = cleared.award;
+    let count = award.count;
+    if rows.len() < 7 * count {
+        return refused(Verdict::Refused(Rule::OutputLength, 56 * count as u64));
+    }
+    rownumbers::put_rows(rows, award);
+    let total = award.total;
+    AwardNumbers {
+        verdict,
+        total: money::magnitude(total),
+        count: count as u64,
+    }
+}

@@ -1,0 +1,49 @@
+// What is answered about the book of a text: the book written out again, its room figure, and the price of a proposed split of it.
+// Each is refused first as reading refuses the text. The entries are `tender`'s.
+ghost use mathlib.Core.Path.{_≡_};
+ghost use lib.ListN.{length};
+ghost use Rattle.bookanswers.specs.BookAnswers.{bookWritten, bookOutput, roomText, splitText};
+use book::RoomFigure;
+use output::TextWritten;
+use refusal::Verdict;
+use split::SplitPrice;
+
+// Writes a text's book out again.
+pub fn write(text: &[u8], out: &mut [u8]) -> TextWritten
+    ensures { λ r. ⌜ r ≡ bookWritten (now (text .entry)) (length (now (out .entry))) ⌝ }
+    ensures { λ r. ⌜ now (out .exit) ≡ bookOutput (now (text .entry)) (now (out .entry)) ⌝ }
+{
+    let read = reader::read(text);
+    let verdict = read.verdict;
+    if let Verdict::Refused(_, _) = verdict {
+        return output::refused(verdict);
+    }
+    let book = read.book;
+    writer::write(book, out)
+}
+
+// The room figure of a text's book.
+pub fn room(text: &[u8]) -> RoomFigure
+    ensures { λ r. ⌜ r ≡ roomText (now (text .entry)) ⌝ }
+{
+    let read = reader::read(text);
+    let verdict = read.verdict;
+    if let Verdict::Refused(_, _) = verdict {
+        return RoomFigure { verdict, bytes: 0 };
+    }
+    let book = read.book;
+    bookrules::room(book)
+}
+
+// The price of a proposed split of a text's book.
+pub fn price_split(text: &[u8], quantities: &[u64]) -> SplitPrice
+    ensures { λ r. ⌜ r ≡ splitText (now (text .entry)) (now (quantities .entry)) ⌝ }
+{
+    let read = reader::read(text);
+    let verdict = read.verdict;
+    if let Verdict::Refused(_, _) = verdict {
+        return split::refused(verdict);
+    }
+    let book = read.book;
+    split::price_split(book, quantities)
+}
