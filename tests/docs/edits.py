@@ -46,10 +46,12 @@ def functions(crate):
 
 
 def public(crate):
-    """The public functions of a library: those of lib.rt, and those that it names with `pub use`."""
+    """The public functions of a library: those of lib.rt, and those of its modules that it names with `pub use`. What it hands on from
+    another crate is that crate's."""
     path = f"crates/{crate}/src/lib.rt"
     text = read(path) if os.path.isfile(path) else ""
-    return re.findall(r"^pub (?:extern \"C\" )?fn (\w+)", text, re.M) + re.findall(r"^pub use [\w:]*::([a-z]\w*);", text, re.M)
+    named = re.findall(r"^pub use (\w+)(?:::\w+)*::([a-z]\w*);", text, re.M)
+    return re.findall(r"^pub (?:extern \"C\" )?fn (\w+)", text, re.M) + [name for owner, name in named if owner not in crates()]
 
 
 def listing():
