@@ -1,3 +1,4 @@
+-- A refusal of the text, a list that is too short, or the rows in full; an award has at most eight rows, so no product overflows.
 use Prim.Native.Nat.{_≤_}
 use native.Mathlib.Omega.{arith}
 use borrow.Author.Needs.{needs}
@@ -6,15 +7,6 @@ use Rattle.awardnumbers.proofs.Awards.{refused-before, too-short, in-fu
 use Rattle.awardnumbers.proofs.award.Statement.{statement}
 use Rattle.awardnumbers.proofs.award.Tie as tie
 
-clear-requires : tie.Need-clear-requires
-clear-requires c κs = search needs
-
-enum-told : tie.Need-enum-told
-enum-told c = search needs
-
-refused-requires : tie.Need-refused-requires
-refused-requires c κs = search needs
-
 returns : tie.Need-returns
 returns c =
     let told = c .before .enum-told .given in
@@ -22,20 +14,8 @@ returns c =
     let a = c .before .before .before .before .before .before .args in
     refused-before (a .text .now) (a .rows .now) (clear .result) (clear .ensures) (told .0 .0) (told .0 .1 .0) (told .1) (c .refused .result) (c .refused .ensures)
 
-enum-told-2 : tie.Need-enum-told-2
-enum-told-2 c = search needs
-
 few-rows : (c : tie.After-enum-told2) → c .before .before .clear .result .award .count ≤ 8
 few-rows c = let clear = c .before .before .clear in few-answered _ (clear .result) (clear .ensures) (c .enum-told2 .given .1)
-
-mul-if1 : tie.Need-mul-if1
-mul-if1 c = omega (arith, few-rows (c .before))
-
-mul-t13 : tie.Need-mul-t13
-mul-t13 c = omega (arith, few-rows (c .before .before))
-
-refused-requires-2 : tie.Need-refused-requires-2
-refused-requires-2 c κs = search needs
 
 returns-2 : tie.Need-returns-2
 returns-2 c =
@@ -44,15 +24,6 @@ returns-2 c =
     let a = told .before .before .before .before .before .args in
     too-short (a .text .now) (a .rows .now) (clear .result) (clear .ensures) (told .enum-told2 .given .1) (c .before .if1 .taken)
     (c .refused2 .result) (c .refused2 .ensures)
-
-put-rows-requires : tie.Need-put-rows-requires
-put-rows-requires c κs = (few-rows (c .before .before .before), c .before .if1 .left)
-
-magnitude-requires : tie.Need-magnitude-requires
-magnitude-requires c κs = search needs
-
-same-length : tie.Need-same-length
-same-length c = search needs
 
 returns-3 : tie.Need-returns-3
 returns-3 c =
@@ -68,16 +39,16 @@ pub award-spec : {M : Type 1} → statement M
 award-spec =
     tie.close
     (tie.spec
-    clear-requires
-    enum-told
-    refused-requires
+    (λ c κs. search needs)
+    (λ c. search needs)
+    (λ c κs. search needs)
     returns
-    enum-told-2
-    mul-if1
-    mul-t13
-    refused-requires-2
+    (λ c. search needs)
+    (λ c. omega (arith, few-rows (c .before)))
+    (λ c. omega (arith, few-rows (c .before .before)))
+    (λ c κs. search needs)
     returns-2
-    put-rows-requires
-    magnitude-requires
-    same-length
+    (λ c κs. (few-rows (c .before .before .before), c .before .if1 .left))
+    (λ c κs. search needs)
+    (λ c. search needs)
     returns-3)
