@@ -14,7 +14,7 @@ fn main() {
     run(&bytes[..n]);
 }
 
-// Answers each piece of the input after the first: the text or the record that it is about begins at `about`.
+// Answers each case; the text or the record that it is about begins at `about`.
 fn run(bytes: &[u8]) {
     let mut about: usize = 0;
     let mut at = pieces::place(bytes, 0, b'%');
@@ -26,24 +26,27 @@ fn run(bytes: &[u8]) {
     }
 }
 
-// Where the text or the record begins that the piece is about: at the piece, if it is one, or where it began before.
+// Where the text or the record begins that a case is about: at the case, if it is one, or where it began before.
 fn subject(bytes: &[u8], before: usize, at: usize) -> usize {
     match pieces::byte(bytes, at) {
-        b't' => at,
-        b'b' => at,
+        b't' | b'b' => at,
         _ => before,
     }
 }
 
+// A number in the line is the length of an output, or numbers are the quantities of a split.
 fn answer(bytes: &[u8], about: usize, at: usize) {
     let line = pieces::line(bytes, at);
     let body = pieces::body(bytes, about);
     show::line(line);
+    let mut numbers = [0u64; 260];
+    let last = pieces::numbers(line, &mut numbers);
+    let size = (numbers[1] % 600) as usize;
+    let quantities = pieces::to_last(&numbers, last);
     let mut out = [b'.'; 600];
-    let size = (pieces::number(line) % 600) as usize;
     if pieces::byte(bytes, about) == b't' {
-        texts::answer(line, body, &mut out[0..size]);
+        texts::answer(line, body, quantities, &mut out[0..size]);
         return;
     }
-    records::answer(line, body, &mut out[0..size]);
+    records::answer(line, body, quantities, &mut out[0..size]);
 }

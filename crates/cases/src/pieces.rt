@@ -1,4 +1,4 @@
-// Standard input: pieces that begin after a byte `%`, each a line and the bytes after it; and numbers.
+// Standard input: cases, which begin after a byte `%`, each a line and the bytes after it; and numbers.
 ghost use Prim.Native.Nat.{_≤_, _<_, min};
 ghost use lib.ListN.{length};
 
@@ -34,7 +34,7 @@ pub fn line(bytes: &[u8], at: usize) -> &[u8] {
     &bytes[at..end]
 }
 
-// The bytes after that line, as far as the piece goes.
+// The bytes after that line, as far as the case goes.
 pub fn body(bytes: &[u8], at: usize) -> &[u8] {
     let line = place(bytes, at, b'\n');
     let end = place(bytes, line, b'%');
@@ -48,8 +48,8 @@ pub fn body(bytes: &[u8], at: usize) -> &[u8] {
 // A negative number is kept as its magnitude and this.
 pub const NEGATIVE: u64 = 9_223_372_036_854_775_808;
 
-// Puts the words before the first `:`, as numbers, each at its place: in a row, and after a line end in the next. A word that is no
-// number counts as 0. Answers the place of the last.
+// Puts the words before the first `:`, as numbers, each at its place: in a row of 26, and after a line end in the next. A word that
+// is no number counts as 0. Answers the place of the last.
 pub fn numbers(bytes: &[u8], out: &mut [u64; 260]) -> usize
     ensures { λ r. ⌜ r < 260 ⌝ }
 {
@@ -77,36 +77,23 @@ fn next(place: usize, byte: u8) -> usize
     }
 }
 
-// A number and a byte after it.
+// A number and a byte after it, as far as 2^64 - 1.
 fn with(number: u64, byte: u8) -> u64 {
     match byte {
         b'-' => NEGATIVE,
-        b'0'..=b'9' => number & NEGATIVE | with_digit(number % NEGATIVE, byte - 48),
+        b'0'..=b'9' => {
+            let tens = number % NEGATIVE % 1_844_674_407_370_955_162 * 10;
+            number & NEGATIVE | std::num::wrapping_add_u64(tens, (byte - 48) as u64)
+        }
         _ => 0,
     }
 }
 
-// The number of a further digit, as far as 2^64 - 1.
-fn with_digit(number: u64, digit: u8) -> u64 {
-    std::num::wrapping_add_u64(number % 1_844_674_407_370_955_162 * 10, wide(digit))
-}
-
-fn wide(x: u8) -> u64 {
-    x as u64
-}
-
-// The numbers from the second to the last.
+// The numbers after a line's first word, which is the place of the last.
 pub fn to_last(numbers: &[u64; 260], last: usize) -> &[u64]
     requires { ⌜ last < 260 ⌝ }
 {
     let all: &[u64] = numbers;
     let end = last + 1;
     &all[1..end]
-}
-
-// The first number after a line's first word.
-pub fn number(line: &[u8]) -> u64 {
-    let mut out = [0u64; 260];
-    numbers(line, &mut out);
-    out[1]
 }

@@ -1,5 +1,5 @@
-// Records, made of the numbers of a piece, and what is asked about them.
-ghost use Prim.Native.Nat.{_≤_, _<_};
+// Records, made of numbers, and what is asked about them.
+ghost use Prim.Native.Nat.{_≤_};
 use crate::pieces;
 use crate::show;
 use book::Bid;
@@ -9,35 +9,26 @@ use money::Blanks;
 use money::Cents;
 use money::CentsPerBlank;
 
-pub fn answer(line: &[u8], numbers: &[u8], out: &mut [u8]) {
+pub fn answer(line: &[u8], numbers: &[u8], quantities: &[u64], out: &mut [u8]) {
     let book = book(numbers);
     match pieces::byte(line, 0) {
-        b'b' => check(book),
-        b'r' => room(book),
-        b'p' => price(line, book),
+        b'b' => {
+            show::verdict(bookrules::check(book));
+            show::line(b"");
+        }
+        b'r' => {
+            let figure = bookrules::room(book);
+            let verdict = figure.verdict;
+            show::answer(verdict, figure.bytes);
+        }
+        b'p' => show::price(split::price_split(book, quantities)),
         b'a' => sheet(book, out),
-        b'w' => written(book, out),
-        b's' => sample(line),
-        _ => (),
+        b'w' => {
+            let w = writer::write(book, out);
+            show::output(w, out);
+        }
+        _ => sample(quantities),
     }
-}
-
-fn check(book: Book) {
-    show::verdict(bookrules::check(book));
-    io::write_all(1, b"\n");
-}
-
-fn room(book: Book) {
-    let figure = bookrules::room(book);
-    let verdict = figure.verdict;
-    show::answer(verdict, figure.bytes);
-}
-
-fn price(line: &[u8], book: Book) {
-    let mut numbers = [0u64; 260];
-    let last = pieces::numbers(line, &mut numbers);
-    let s = split::price_split(book, pieces::to_last(&numbers, last));
-    show::price(s);
 }
 
 // The sheet of the award, also of the empty one beside a refusal.
@@ -50,14 +41,11 @@ fn sheet(book: Book, out: &mut [u8]) {
     show::line(out);
 }
 
-fn written(book: Book, out: &mut [u8]) {
-    let w = writer::write(book, out);
-    show::output(w, out);
-}
-
-fn sample(line: &[u8]) {
-    let s = sampling::sample(Blanks(pieces::number(line)));
-    show::number(s.0);
+// Of the first quantity.
+fn sample(quantities: &[u64]) {
+    if 0 < quantities.len() {
+        show::number(sampling::sample(Blanks(quantities[0])).0);
+    }
 }
 
 // The first row has the demand and the count of bids, each further row the bidder, the count of segments, and the segments.
@@ -66,7 +54,7 @@ fn book(text: &[u8]) -> Book {
     pieces::numbers(text, &mut n);
     Book {
         demand: Blanks(n[0]),
-        count: size(n[1]),
+        count: n[1] as usize,
         bids: [
             bid(&n, 26),
             bid(&n, 52),
@@ -85,7 +73,7 @@ fn bid(n: &[u64; 260], at: usize) -> Bid
 {
     Bid {
         bidder: n[at],
-        count: size(n[at + 1]),
+        count: n[at + 1] as usize,
         segments: [
             segment(n, at + 2),
             segment(n, at + 6),
@@ -109,19 +97,10 @@ fn segment(n: &[u64; 260], at: usize) -> Segment
     }
 }
 
-fn size(x: u64) -> usize {
-    x as usize
-}
-
 fn cents(n: u64) -> Cents {
     if n < pieces::NEGATIVE {
         return Cents(n as i64);
     }
-    Cents(minus((n - pieces::NEGATIVE) % 10_000_000_000_000))
-}
-
-fn minus(n: u64) -> i64
-    requires { ⌜ n < 10000000000000 ⌝ }
-{
-    -(n as i64)
+    let magnitude = (n - pieces::NEGATIVE) % 10_000_000_000_000;
+    Cents(-(magnitude as i64))
 }

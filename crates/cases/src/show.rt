@@ -9,12 +9,6 @@ pub fn line(text: &[u8]) {
     io::write_all(1, b"\n");
 }
 
-// The first n bytes.
-pub fn first(text: &[u8], n: u64) {
-    let end = io::count((n % 65_536) as isize, text);
-    io::write_all(1, &text[..end]);
-}
-
 pub fn number(n: u64) {
     io::print_decimal(1, n);
     io::write_all(1, b"\n");
@@ -48,20 +42,16 @@ pub fn output(w: TextWritten, out: &[u8]) {
 
 pub fn price(s: SplitPrice) {
     let v = s.verdict;
-    verdict(v);
     let price = s.price;
-    cents(price);
-    if s.meets {
-        io::write_all(1, b", yes\n");
-    } else {
-        io::write_all(1, b", no\n");
-    }
-}
-
-fn cents(price: Cents) {
+    verdict(v);
     io::write_all(1, b", ");
     if !money::at_most(Cents(0), price) {
         io::write_all(1, b"-");
     }
     io::print_decimal(1, money::magnitude(price));
+    if s.meets {
+        io::write_all(1, b", yes\n");
+    } else {
+        io::write_all(1, b", no\n");
+    }
 }

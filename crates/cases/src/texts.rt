@@ -2,15 +2,24 @@
 use crate::pieces;
 use crate::show;
 
-pub fn answer(line: &[u8], text: &[u8], out: &mut [u8]) {
+pub fn answer(line: &[u8], text: &[u8], quantities: &[u64], out: &mut [u8]) {
     match pieces::byte(line, 0) {
         b't' => printed(text),
-        b'r' => room(text),
-        b'p' => price(line, text),
-        b'a' => sheet(text, out),
-        b'w' => written(text, out),
-        b'c' => cuts(text),
-        _ => (),
+        b'r' => {
+            let figure = tender::room(text);
+            let verdict = figure.verdict;
+            show::answer(verdict, figure.bytes);
+        }
+        b'p' => show::price(tender::price_split(text, quantities)),
+        b'a' => {
+            let w = tender::sheet(text, out);
+            show::output(w, out);
+        }
+        b'w' => {
+            let w = tender::write(text, out);
+            show::output(w, out);
+        }
+        _ => cuts(text),
     }
 }
 
@@ -18,30 +27,8 @@ pub fn answer(line: &[u8], text: &[u8], out: &mut [u8]) {
 fn printed(text: &[u8]) {
     let mut out = [b'.'; 600];
     let w = tender::print(text, &mut out);
-    show::first(&out, w.bytes);
-}
-
-fn room(text: &[u8]) {
-    let figure = tender::room(text);
-    let verdict = figure.verdict;
-    show::answer(verdict, figure.bytes);
-}
-
-fn price(line: &[u8], text: &[u8]) {
-    let mut numbers = [0u64; 260];
-    let last = pieces::numbers(line, &mut numbers);
-    let s = tender::price_split(text, pieces::to_last(&numbers, last));
-    show::price(s);
-}
-
-fn sheet(text: &[u8], out: &mut [u8]) {
-    let w = tender::sheet(text, out);
-    show::output(w, out);
-}
-
-fn written(text: &[u8], out: &mut [u8]) {
-    let w = tender::write(text, out);
-    show::output(w, out);
+    let end = io::count((w.bytes % 65_536) as isize, &out);
+    io::write_all(1, &out[..end]);
 }
 
 // Every proper beginning of a text is refused by rule 2 at its own length, or shown.
@@ -70,6 +57,6 @@ fn cut(text: &[u8]) -> u64 {
     io::print_decimal(1, end);
     io::write_all(1, b": ");
     show::verdict(verdict);
-    io::write_all(1, b"\n");
+    show::line(b"");
     0
 }

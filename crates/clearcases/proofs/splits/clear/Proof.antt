@@ -1,13 +1,14 @@
--- The splits are numbered from 728 down.
+-- There are 729 splits.
+use Prim.Native.Nat.{_-_, _≤_}
 use borrow.Author.Needs.{needs}
 use Rattle.clearcases.proofs.splits.clear.Statement.{statement}
 use Rattle.clearcases.proofs.splits.clear.Tie as tie
 
 abbrev Inv-loop : tie.InvT-loop
-Inv-loop book struck best₀ split₀ best split = Unit {0}
+Inv-loop book struck best₀ split₀ best split = split ≤ 729
 
 abbrev μ-loop : tie.MeasureT-loop
-μ-loop book struck best₀ split₀ best split = split
+μ-loop book struck best₀ split₀ best split = 729 - split
 
 pub clear-spec : {M : Type 1} → statement M
 clear-spec =
@@ -16,9 +17,9 @@ clear-spec =
     Inv-loop
     μ-loop
     (λ c. search needs)
+    (λ c κs. search needs)
+    (λ c κs. search needs)
     (λ c. search needs)
-    (λ c κs. search needs)
-    (λ c κs. search needs)
     (λ c. search needs)
     (λ c. search needs)
     (λ c. search needs))

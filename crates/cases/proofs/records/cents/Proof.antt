@@ -1,5 +1,6 @@
--- A number of thirteen digits has a negative.
-use Prim.Native.Nat.{ℕ, zero, suc, _<_}
+-- A magnitude of thirteen digits has a negative.
+use Prim.Native.Nat.{ℕ, zero, suc, _-_, _%_, _<_}
+use native.Mathlib.Nat.{mod-lt}
 use native.Mathlib.Omega.{arith}
 use mathlib.Core.Path.{_≡_, refl, sym, ap, subst}
 use borrow.Author.Needs.{needs}
@@ -8,8 +9,8 @@ use mir.Syntax.{w64}
 use mir.Val.{SFits, toZ}
 use mir.ValLaws.{toZ-pos}
 use Rattle.money.proofs.Bounds.{natAbs-plus, small-fits}
-use Rattle.cases.proofs.records.minus.Statement.{statement}
-use Rattle.cases.proofs.records.minus.Tie as tie
+use Rattle.cases.proofs.records.cents.Statement.{statement}
+use Rattle.cases.proofs.records.cents.Tie as tie
 
 natAbs-neg : (n : ℕ) → natAbs (negℤ (pos n)) ≡ n
 natAbs-neg zero = refl
@@ -20,5 +21,12 @@ fits n small =
     subst (SFits w64) (sym (ap (λ (z : ℤ). pos 0 -ℤ z) (toZ-pos w64 n (omega arith))))
     (small-fits (pos 0 -ℤ pos n) (omega (arith, natAbs-plus (pos 0) (negℤ (pos n)), natAbs-neg n)))
 
-pub minus-spec : {M : Type 1} → statement M
-minus-spec = tie.close (tie.spec (λ c. search needs) (λ c. fits (c .args .n) (c .pre)) (λ c. search needs))
+pub cents-spec : {M : Type 1} → statement M
+cents-spec =
+    tie.close
+    (tie.spec
+    (λ c. search needs)
+    (λ c. search needs)
+    (λ c. search needs)
+    (λ c. fits ((c .before .args .n - 9223372036854775808) % 10000000000000) (mod-lt _ (omega arith)))
+    (λ c. search needs))
