@@ -90,7 +90,7 @@ unfolding rowOf segmentNumber
 row-up-to b r t a few o total = record {
   bidder = a .bidder-high;
   segment = omega (arith, number-small 0 segment0 (b .segments) r);
-  quantity = supply-small b r (a .ranges) o .quantity;
+  quantity = supply-small b (a .ranges) r o .quantity;
   price = price-up-to b r a o;
   sample = printed-small r;
   without = total;

@@ -61,7 +61,7 @@ pub record UpTo (most : ℕ) (z : ℤ) : Type 0 where
 pub price-up-to : (b : BidEntries) (r : ℕ) → AcceptedBid b → offers (supplyOf b) r ≡ true → UpTo mostCents (priceAt (supplyOf b) r)
 price-up-to b r a o = record {
   not-negative = offered-from-zero (supplyOf b) r (sound-supply b a .each) o;
-  size = supply-small b r (a .ranges) o .price;
+  size = supply-small b (a .ranges) r o .price;
 }
 
 cost-up-to : (bids : List BidEntries) (rs : List ℕ) → All AcceptedBid bids → Allocation (suppliesOf bids) rs

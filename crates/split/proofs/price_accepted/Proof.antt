@@ -62,7 +62,7 @@ on-offer : (c : tie.After-known-told Inv-loop μ-loop)
 on-offer c = offered (supplyOf (this (turn c))) (quantity c) (c .before .offer .given .0 .0) (sym (c .before .before .before .price-at .ensures) ∙ c .before .offer .given .1)
 
 small : (c : tie.After-known-told Inv-loop μ-loop) → Small (supplyOf (this (turn c))) (quantity c)
-small c = supply-small (this (turn c)) (quantity c) (this-accepted (turn c) .ranges) (on-offer c .0)
+small c = supply-small (this (turn c)) (this-accepted (turn c) .ranges) (quantity c) (on-offer c .0)
 
 loop-holds : tie.Need-loop-holds Inv-loop μ-loop
 loop-holds c = left-all _ _

@@ -1,12 +1,11 @@
 -- `find` goes through the supply function from segment 0: those passed do not have the quantity, and it stops at one that has it.
 use Prim.Native.Nat.{ℕ, _+_, _≤_, _<_, _-_}
 use mathlib.Core.Bool.{Bool, false}
-use mathlib.Core.Path.{_≡_, sym, ap, _∙_}
+use mathlib.Core.Path.{_≡_, sym, _∙_}
 use native.Mathlib.Omega.{arith}
 use borrow.Author.Count.{below-none, below-more}
 use borrow.Author.Needs.{needs}
 use lib.ListN.{getD}
-use Rattle.book.specs.declared.Segment.{Segment}
 use Rattle.book.specs.Entries.{bidEntries}
 use Rattle.supply.specs.Supply.{segment0, supplyOf, on}
 use Rattle.supply.proofs.Places.{nowhere}

@@ -6,7 +6,7 @@ use lib.IntN.{ℤ}
 use Rattle.book.specs.Entries.{bidEntries}
 use Rattle.book.proofs.InRange.{price-fits}
 use Rattle.supply.specs.declared.Offer.the-variants.{Price}
-use Rattle.supply.specs.Supply.{supplyOf, offerOf}
+use Rattle.supply.specs.Supply.{supplyOf}
 use Rattle.supply.specs.Places.{FirstOn}
 use Rattle.supply.proofs.Numbers.{number-counted}
 use Rattle.supply.proofs.Offers.{offer-found, offer-nowhere, Limits, limits, found-small}
@@ -31,8 +31,8 @@ price-requires c κs =
     let told = c .before .before .before in
     let s = told .before .before .before .before in
     let there = c .before .before .segment-of in
-    let range : Limits (there .result) = rw (there .ensures .1) (limits (bidEntries (s .args .bid)) _ (s .pre .1) (there .ensures .0)) in
-    price-fits (there .result) _ (range .unit-high) (range .fixed-size) (found-small (bidEntries (s .args .bid)) _ _ (s .pre .1) (first told))
+    let range : Limits (there .result) = rw (there .ensures .1) (limits (bidEntries (s .args .bid)) (s .pre .1) _ (there .ensures .0)) in
+    price-fits (there .result) _ (range .unit-high) (range .fixed-size) (found-small (bidEntries (s .args .bid)) (s .pre .1) _ _ (first told))
 
 returns-2 : tie.Need-returns-2
 returns-2 c =

@@ -1,5 +1,5 @@
 -- `segment_number` gives the number that `find` found, and 0 where there is none, as the definition does.
-use mathlib.Core.Path.{sym, _∙_}
+use mathlib.Core.Path.{sym}
 use borrow.Author.Needs.{needs}
 use Rattle.supply.proofs.Places.{number-found, number-nowhere}
 use Rattle.supply.proofs.segment_number.Statement.{statement}
