@@ -39,9 +39,7 @@ pub award-spec : {M : Type 1} → statement M
 award-spec =
     tie.close
     (tie.spec
-    (λ c κs. search needs)
-    (λ c. search needs)
-    (λ c κs. search needs)
+    (λ c κs. search needs) (λ c. search needs) (λ c κs. search needs)
     returns
     (λ c. search needs)
     (λ c. omega (arith, few-rows (c .before)))
@@ -49,6 +47,5 @@ award-spec =
     (λ c κs. search needs)
     returns-2
     (λ c κs. (few-rows (c .before .before .before), c .before .if1 .left))
-    (λ c κs. search needs)
-    (λ c. search needs)
+    (λ c κs. search needs) (λ c. search needs)
     returns-3)

@@ -37,9 +37,6 @@ loop-holds c = summed-none _ _ (cheaper-none _ _)
 row-requires : tie.Need-row-requires Inv-loop μ-loop
 row-requires c κs = (omega (arith, c .before .before .pre .few), sound c)
 
-no-dearer-requires : tie.Need-no-dearer-requires Inv-loop μ-loop
-no-dearer-requires c κs = search needs
-
 sub-sum : tie.Need-sub-sum Inv-loop μ-loop
 sub-sum c = here (c .before .before .before) .order
 
@@ -47,12 +44,6 @@ add-sum : tie.Need-add-sum Inv-loop μ-loop
 add-sum c =
     let high = here (c .before .before .before) in
     omega (arith, c .before .before .before .before .before .before .pre .few)
-
-add-i : tie.Need-add-i Inv-loop μ-loop
-add-i c = search needs
-
-loop-less : tie.Need-loop-less Inv-loop μ-loop
-loop-less c = search needs
 
 loop-again : tie.Need-loop-again Inv-loop μ-loop
 loop-again c =
@@ -83,10 +74,9 @@ cheaper-spec =
     μ-loop
     loop-holds
     row-requires
-    no-dearer-requires
+    (λ c κs. search needs)
     sub-sum
     add-sum
-    add-i
-    loop-less
+    (λ c. search needs) (λ c. search needs)
     loop-again
     returns)

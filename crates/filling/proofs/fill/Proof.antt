@@ -82,9 +82,6 @@ sub-left c =
 loop-holds : tie.Need-loop-holds Inv-loop μ-loop
 loop-holds c = filling-none _ _ _ _ refl
 
-sub-i : tie.Need-sub-i Inv-loop μ-loop
-sub-i c = search needs
-
 row-requires : tie.Need-row-requires Inv-loop μ-loop
 row-requires c κs = (omega (arith, below c, c .before .before .before .before .pre .0 .few), sound c)
 
@@ -101,12 +98,6 @@ sub-left-2 c =
 add-t20 : tie.Need-add-t20 Inv-loop μ-loop
 add-t20 c = let high = read (c .before .before) .end-high in omega (arith, read-end (c .before))
 
-mul-quantities : tie.Need-mul-quantities Inv-loop μ-loop
-mul-quantities c = search needs
-
-array-set-from-quantities : tie.Need-array-set-from-quantities Inv-loop μ-loop
-array-set-from-quantities c = search needs
-
 price-requires : tie.Need-price-requires Inv-loop μ-loop
 price-requires c κs =
     let x = c .before .before .before in
@@ -120,9 +111,6 @@ plus-requires c κs =
     let few = l .before .before .before .before .pre .0 .few in
     let at = l .before .loop in
     total-fits (at .inv) (at .i - 1) (next l) few (sound l) (x .share .result) (x .share .ensures) (c .price .result .0) (is-price c)
-
-loop-less : tie.Need-loop-less Inv-loop μ-loop
-loop-less c = search needs
 
 loop-again : tie.Need-loop-again Inv-loop μ-loop
 loop-again c =
@@ -152,15 +140,14 @@ fill-spec =
     sum-requires
     sub-left
     loop-holds
-    sub-i
+    (λ c. search needs)
     row-requires
     share-requires
     sub-left-2
     add-t20
-    mul-quantities
-    array-set-from-quantities
+    (λ c. search needs) (λ c. search needs)
     price-requires
     plus-requires
-    loop-less
+    (λ c. search needs)
     loop-again
     returns)

@@ -17,9 +17,6 @@ returns c units fixed =
     let is-low = low .sum .ensures ∙ sym (starts-sum (a .starts .now) (a .ends .now) units fixed (a .n)) in
     too-many (a .demand .0) chosen (low .sum .result) is-low (c .if1 .taken)
 
-sum-requires-2 : tie.Need-sum-requires-2
-sum-requires-2 c κs = search needs
-
 returns-2 : tie.Need-returns-2
 returns-2 c units fixed =
     let high = c .before in
@@ -31,4 +28,4 @@ returns-2 c units fixed =
     not-too-many (a .demand .0) chosen (low .sum .result) is-low (high .sum2 .result) is-high (high .before .if1 .left)
 
 pub fits-spec : {M : Type 1} → statement M
-fits-spec = tie.close (tie.spec sum-requires returns sum-requires-2 returns-2)
+fits-spec = tie.close (tie.spec sum-requires returns (λ c κs. search needs) returns-2)

@@ -38,9 +38,6 @@ cheaper-requires c κs = sound-first (c .before .before .pre) (c .before .before
 returns : tie.Need-returns
 returns c = by-row (c .before .before .before) 0 (omega (arith, c .before .cheaper .ensures))
 
-sub-over : tie.Need-sub-over
-sub-over c = search needs
-
 returns-2 : tie.Need-returns-2
 unfolding width
 returns-2 c = by-row (c .before .before .before .before) _ (omega (arith, c .before .before .cheaper .ensures))
@@ -52,4 +49,4 @@ returns-3 c = by-row (c .before .before .before .before) _ (omega (arith, c .bef
 pub share-spec : {M : Type 1} → statement M
 share-spec =
     tie.close
-    (tie.spec row-requires sub-width cheaper-requires returns sub-over returns-2 returns-3)
+    (tie.spec row-requires sub-width cheaper-requires returns (λ c. search needs) returns-2 returns-3)

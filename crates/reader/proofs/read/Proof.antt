@@ -7,17 +7,8 @@ use borrow.Author.Needs.{needs}
 use Rattle.reader.proofs.read.Statement.{statement}
 use Rattle.reader.proofs.read.Tie as tie
 
-refused-requires : tie.Need-refused-requires
-refused-requires c κs = search needs
-
 returns : tie.Need-returns
 returns c = c .refused .ensures ∙ read-long (c .before .before .before .args .text .now) (c .before .if1 .taken)
-
-book-requires : tie.Need-book-requires
-book-requires c κs = search needs
-
-refused-requires-2 : tie.Need-refused-requires-2
-refused-requires-2 c κs = search needs
 
 returns-2 : tie.Need-returns-2
 returns-2 c =
@@ -27,9 +18,6 @@ returns-2 c =
     ∙ read-stopped t (c .before .before .before .before .if1 .left) (b .result .next .at)
     (subst (Gives book t 0 (b .ensures .0) (b .result .next .at)) (c .before .if2 .taken) (b .ensures .2))
 
-refused-requires-3 : tie.Need-refused-requires-3
-refused-requires-3 c κs = search needs
-
 returns-3 : tie.Need-returns-3
 returns-3 c =
     let t = c .before .before .before .before .before .before .before .before .args .text .now in
@@ -38,15 +26,6 @@ returns-3 c =
     ∙ read-ended t (c .before .before .before .before .before .before .if1 .left) (b .ensures .0) (b .result .next .at)
     (subst (Gives book t 0 (b .ensures .0) (b .result .next .at)) (c .before .before .before .if2 .left) (b .ensures .2))
     (c .before .if3 .taken)
-
-check-requires : tie.Need-check-requires
-check-requires c κs = search needs
-
-enum-known-verdict : tie.Need-enum-known-verdict
-enum-known-verdict c = search needs
-
-refused-requires-4 : tie.Need-refused-requires-4
-refused-requires-4 c κs = search needs
 
 returns-4 : tie.Need-returns-4
 returns-4 c =
@@ -63,9 +42,6 @@ returns-4 c =
     (c .before .before .verdict .given .0 .0) (c .before .before .verdict .given .0 .1 .0) (b .ensures .1)
     (c .before .before .before .before .check .ensures) (c .before .before .verdict .given .1)
     ∙ parsed
-
-enum-told : tie.Need-enum-told
-enum-told c = search needs
 
 returns-5 : tie.Need-returns-5
 returns-5 c =
@@ -85,16 +61,13 @@ pub read-spec : {M : Type 1} → statement M
 read-spec =
     tie.close
     (tie.spec
-    refused-requires
+    (λ c κs. search needs)
     returns
-    book-requires
-    refused-requires-2
+    (λ c κs. search needs) (λ c κs. search needs)
     returns-2
-    refused-requires-3
+    (λ c κs. search needs)
     returns-3
-    check-requires
-    enum-known-verdict
-    refused-requires-4
+    (λ c κs. search needs) (λ c. search needs) (λ c κs. search needs)
     returns-4
-    enum-told
+    (λ c. search needs)
     returns-5)

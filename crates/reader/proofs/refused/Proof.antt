@@ -3,11 +3,8 @@ use borrow.Author.Needs.{needs}
 use Rattle.reader.proofs.refused.Statement.{statement}
 use Rattle.reader.proofs.refused.Tie as tie
 
-empty-book-requires : tie.Need-empty-book-requires
-empty-book-requires c κs = search needs
-
 returns : tie.Need-returns
 returns c = rw (c .empty-book .ensures)
 
 pub refused-spec : {M : Type 1} → statement M
-refused-spec = tie.close (tie.spec empty-book-requires returns)
+refused-spec = tie.close (tie.spec (λ c κs. search needs) returns)

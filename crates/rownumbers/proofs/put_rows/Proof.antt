@@ -67,8 +67,7 @@ put-rows-spec =
     (λ c. omega (arith, c .before .before .before .before .before .before .pre .0))
     (λ c. sym (seven (c .before .before)))
     put-requires
-    (λ c. search needs)
-    (λ c. search needs)
+    (λ c. search needs) (λ c. search needs)
     loop-again
     (λ c. c .before .loop .inv .1)
     returns)

@@ -136,8 +136,7 @@ number-spec =
     mul-value
     value-of-requires-2
     add-value
-    (λ c. omega arith)
-    (λ c. omega arith)
+    (λ c. omega arith) (λ c. omega arith)
     loop-again
     number-to-requires-2
     returns-4)

@@ -31,12 +31,6 @@ held s =
     let h : length (s .args .t1 .bids) ≡ 8 = search (length-held, s .good) in
     omega (arith, s .pre .few)
 
-no-division-requires : tie.Need-no-division-requires
-no-division-requires c κs = search needs
-
-no-choice-requires : tie.Need-no-choice-requires
-no-choice-requires c κs = search needs
-
 leaf-requires : tie.Need-leaf-requires
 leaf-requires c κs = sound-nothing _ _ _ _
 
@@ -50,9 +44,6 @@ returns c =
     let is-none = c .before .before .before .before .before .before .if1 .taken in
     let at = row (o .starts) (o .ends) (o .units) (o .fixed) in
     no-bidders (b .demand .0) (b .bids) (b .count) at (c .leaf .result) (none .result) is-none (none .ensures) (c .leaf .ensures) ∙ award s
-
-element-copy-out-bid : tie.Need-element-copy-out-bid
-element-copy-out-bid c = search needs
 
 last-bidder-requires : tie.Need-last-bidder-requires
 last-bidder-requires c κs =
@@ -98,11 +89,10 @@ pub best-division-spec : {M : Type 1} → statement M
 best-division-spec =
     tie.close
     (tie.spec
-    no-division-requires
-    no-choice-requires
+    (λ c κs. search needs) (λ c κs. search needs)
     leaf-requires
     returns
-    element-copy-out-bid
+    (λ c. search needs)
     last-bidder-requires
     returns-2
     search-requires

@@ -59,56 +59,20 @@ more c =
     let t = c .segment-of .result in
     kept-rows (c .before .before .loop .inv .1) t _ (c .before .before .loop .full .count) (s .pre .1 .1) (fixed-kept t (sound c))
 
-add-n : tie.Need-add-n Inv-loop μ-loop
-add-n c = search needs
-
-add-number : tie.Need-add-number Inv-loop μ-loop
-add-number c = search needs
-
 loop-holds : tie.Need-loop-holds Inv-loop μ-loop
 loop-holds c =
     let s = c .before in
     let b = s .args .bid in
     (omega arith, kept-none _ _ (held s), each-none _ (supplyOf (bidEntries b)) _ (b .count + 1) (few-segments b))
 
-sub-number : tie.Need-sub-number Inv-loop μ-loop
-sub-number c = search needs
-
 segment-of-requires : tie.Need-segment-of-requires Inv-loop μ-loop
 segment-of-requires c κs = (c .before .before .before .pre .0 .count-high, omega (arith, c .before .loop .inv .0))
-
-mul-full : tie.Need-mul-full Inv-loop μ-loop
-mul-full c = search needs
-
-element-write-full : tie.Need-element-write-full Inv-loop μ-loop
-element-write-full c = search needs
-
-mul-full-2 : tie.Need-mul-full-2 Inv-loop μ-loop
-mul-full-2 c = search needs
-
-element-write-full-2 : tie.Need-element-write-full-2 Inv-loop μ-loop
-element-write-full-2 c = search needs
-
-mul-full-3 : tie.Need-mul-full-3 Inv-loop μ-loop
-mul-full-3 c = search needs
-
-element-write-full-3 : tie.Need-element-write-full-3 Inv-loop μ-loop
-element-write-full-3 c = search needs
-
-mul-fixed : tie.Need-mul-fixed Inv-loop μ-loop
-mul-fixed c = search needs
-
-element-set-from-fixed : tie.Need-element-set-from-fixed Inv-loop μ-loop
-element-set-from-fixed c = search needs
 
 leaf-requires : tie.Need-leaf-requires Inv-loop μ-loop
 leaf-requires c κs =
     let t = c .before .before .before .before .before .before in
     let s = t .before .before .before .before in
     sound-put (with t) _ (t .segment-of .result) _ (s .pre .1 .1) (more t) (sound t) (s .pre .1 .0 .each)
-
-loop-less : tie.Need-loop-less Inv-loop μ-loop
-loop-less c = search needs
 
 loop-again : tie.Need-loop-again Inv-loop μ-loop
 loop-again c =
@@ -137,20 +101,13 @@ last-bidder-spec =
     (tie.spec
     Inv-loop
     μ-loop
-    add-n
-    add-number
+    (λ c. search needs) (λ c. search needs)
     loop-holds
-    sub-number
+    (λ c. search needs)
     segment-of-requires
-    mul-full
-    element-write-full
-    mul-full-2
-    element-write-full-2
-    mul-full-3
-    element-write-full-3
-    mul-fixed
-    element-set-from-fixed
+    (λ c. search needs) (λ c. search needs) (λ c. search needs) (λ c. search needs) (λ c. search needs) (λ c. search needs)
+    (λ c. search needs) (λ c. search needs)
     leaf-requires
-    loop-less
+    (λ c. search needs)
     loop-again
     returns)

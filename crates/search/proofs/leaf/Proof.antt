@@ -29,9 +29,6 @@ fill-requires c κs =
     let tested = c .before .fits2 .ensures (s .args .units .now) (s .args .fixed .now) in
     (s .pre, passed tested (c .if1 .left))
 
-pick-requires : tie.Need-pick-requires
-pick-requires c κs = search needs
-
 returns-2 : tie.Need-returns-2
 returns-2 c =
     let new = c .before .fill in
@@ -43,4 +40,4 @@ returns-2 c =
     c .pick .ensures ∙ fit (a .demand .0) (chosen s) (found (a .n) (a .best)) fitting (divisionIn (a .n) (new .result)) (new .ensures .1)
 
 pub leaf-spec : {M : Type 1} → statement M
-leaf-spec = tie.close (tie.spec fits-requires returns fill-requires pick-requires returns-2)
+leaf-spec = tie.close (tie.spec fits-requires returns fill-requires (λ c κs. search needs) returns-2)

@@ -130,8 +130,7 @@ price-accepted-spec =
     (λ c. omega (arith, few (c .before .before .before)))
     (λ c. omega (arith, few (c .before .before .before)))
     price-at-requires
-    (λ c. search needs)
-    (λ c. search needs)
+    (λ c. search needs) (λ c. search needs)
     (λ c κs. omega (arith, few (c .before .before .before .before .before .before .before)))
     returns-2
     plus-requires

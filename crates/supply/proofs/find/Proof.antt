@@ -46,10 +46,8 @@ find-spec =
     Inv-loop
     μ-loop
     (λ c. (omega arith, below-none _))
-    (λ c κs. search needs)
-    (λ c κs. search needs)
+    (λ c κs. search needs) (λ c κs. search needs)
     returns
-    (λ c. search needs)
-    (λ c. search needs)
+    (λ c. search needs) (λ c. search needs)
     loop-again
     returns-2)

@@ -43,9 +43,7 @@ pub price-at-spec : {M : Type 1} → statement M
 price-at-spec =
     tie.close
     (tie.spec
-    (λ c κs. search needs)
-    (λ c. search needs)
-    (λ c. search needs)
+    (λ c κs. search needs) (λ c. search needs) (λ c. search needs)
     returns
     segment-of-requires
     price-requires

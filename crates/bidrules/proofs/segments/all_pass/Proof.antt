@@ -65,11 +65,9 @@ all-pass-spec =
     Inv-loop
     μ-loop
     (λ c. (omega arith, refl))
-    (λ c. search needs)
-    (λ c. search needs)
+    (λ c. search needs) (λ c. search needs)
     passes-requires
     returns
-    (λ c. search needs)
-    (λ c. search needs)
+    (λ c. search needs) (λ c. search needs)
     loop-again
     returns-2)

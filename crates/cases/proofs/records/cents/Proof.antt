@@ -25,8 +25,6 @@ pub cents-spec : {M : Type 1} → statement M
 cents-spec =
     tie.close
     (tie.spec
-    (λ c. search needs)
-    (λ c. search needs)
-    (λ c. search needs)
+    (λ c. search needs) (λ c. search needs) (λ c. search needs)
     (λ c. fits ((c .before .args .n - 9223372036854775808) % 10000000000000) (mod-lt _ (omega arith)))
     (λ c. search needs))

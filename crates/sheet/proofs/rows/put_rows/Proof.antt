@@ -55,10 +55,7 @@ put-rows-spec =
     loop-holds
     (λ c. omega (arith, c .before .before .row-count .ensures))
     (λ c. omega (arith, c .before .before .row-count .ensures, eight (c .before)))
-    (λ c κs. search needs)
-    (λ c κs. search needs)
-    (λ c. search needs)
-    (λ c. search needs)
+    (λ c κs. search needs) (λ c κs. search needs) (λ c. search needs) (λ c. search needs)
     loop-again
     (λ c. c .before .loop .inv .2)
     returns)
