@@ -11,8 +11,8 @@ use Rattle.book.specs.declared.Segment.{Segment}
 use Rattle.book.specs.Entries.{bidEntries}
 use Rattle.book.specs.Rules.{within, segmentInRange, bidInRange, segmentsRise, bidVerdict}
 use Rattle.book.proofs.InRange.{within-high}
-use Rattle.bidrules.specs.declared.segments.Test.the-variants.{InRange}
-use Rattle.bidrules.specs.Tests.{askedOf}
+use Rattle.segmentrules.specs.declared.Test.the-variants.{InRange}
+use Rattle.segmentrules.specs.Tests.{askedOf}
 use Rattle.bidrules.proofs.check_bid.Statement.{statement}
 use Rattle.bidrules.proofs.check_bid.Tie as tie
 

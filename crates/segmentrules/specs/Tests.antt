@@ -1,9 +1,9 @@
--- For the contracts of `passes` and `all_pass`, which are private: what each test is, and what it asks of a segment.
+-- For the contracts of `passes` and `all_pass`: what each test is, and what it asks of a segment.
 use mathlib.Core.Bool.{Bool, true}
 use Rattle.book.specs.declared.Segment.{Segment}
 use Rattle.book.specs.Rules.{segmentInRange, startNotNegative}
-use Rattle.bidrules.specs.declared.segments.Test.{Test}
-use Rattle.bidrules.specs.declared.segments.Test.the-variants.{InRange, StartNotNegative}
+use Rattle.segmentrules.specs.declared.Test.{Test}
+use Rattle.segmentrules.specs.declared.Test.the-variants.{InRange, StartNotNegative}
 
 abbrev pub testOf : Test → Segment → Bool
 testOf InRange = segmentInRange

@@ -6,8 +6,8 @@ use lib.IntN.{pos}
 use lib.Signed.{leZ}
 use Rattle.book.specs.Rules.{startNotNegative}
 use Rattle.book.proofs.InRange.{in-range, price-fits}
-use Rattle.bidrules.proofs.segments.start_not_negative.Statement.{statement}
-use Rattle.bidrules.proofs.segments.start_not_negative.Tie as tie
+use Rattle.segmentrules.proofs.segments.start_not_negative.Statement.{statement}
+use Rattle.segmentrules.proofs.segments.start_not_negative.Tie as tie
 
 price-requires : tie.Need-price-requires
 price-requires c κs =

@@ -1,7 +1,7 @@
 -- Each end of the range is tested once.
 use borrow.Author.Tests.{lt-leb, le-leb}
-use Rattle.bidrules.proofs.within.Statement.{statement}
-use Rattle.bidrules.proofs.within.Tie as tie
+use Rattle.segmentrules.proofs.within.Statement.{statement}
+use Rattle.segmentrules.proofs.within.Tie as tie
 
 returns : tie.Need-returns
 returns c = simp (lt-leb _ _ (c .if1 .taken))

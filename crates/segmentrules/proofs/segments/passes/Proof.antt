@@ -1,7 +1,7 @@
 -- Each test's function is called.
 use borrow.Author.Needs.{needs}
-use Rattle.bidrules.proofs.segments.passes.Statement.{statement}
-use Rattle.bidrules.proofs.segments.passes.Tie as tie
+use Rattle.segmentrules.proofs.segments.passes.Statement.{statement}
+use Rattle.segmentrules.proofs.segments.passes.Tie as tie
 
 start-not-negative-requires : tie.Need-start-not-negative-requires
 start-not-negative-requires c κs = rw (c .enum-told2 .given .1) at (c .before .before .pre)

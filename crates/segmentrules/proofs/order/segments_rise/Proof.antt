@@ -10,8 +10,8 @@ use Rattle.lists.proofs.Slices.{length-held}
 use Rattle.book.specs.Entries.{bidEntries}
 use Rattle.book.specs.Rules.{segmentsRise}
 use Rattle.book.proofs.Rising.{rises-next, start-not-above, start-above-end, rises-done}
-use Rattle.bidrules.proofs.order.segments_rise.Statement.{statement}
-use Rattle.bidrules.proofs.order.segments_rise.Tie as tie
+use Rattle.segmentrules.proofs.order.segments_rise.Statement.{statement}
+use Rattle.segmentrules.proofs.order.segments_rise.Tie as tie
 
 abbrev Inv-loop : tie.InvT-loop
 Inv-loop bid before₀ i₀ before i =

@@ -5,16 +5,11 @@ ghost use Prim.Native.Nat.{_≤_};
 ghost use Rattle.lists.specs.Every.{every};
 ghost use Rattle.book.specs.Entries.{bidEntries};
 ghost use Rattle.book.specs.Rules.{segmentInRange, startNotNegative};
-ghost use Rattle.bidrules.specs.Tests.{testOf, askedOf};
+ghost use Rattle.segmentrules.specs.Tests.{testOf, askedOf};
+use crate::Test;
 use book::Bid;
 use book::Segment;
 use money::Cents;
-
-// What a rule tests of a segment.
-pub enum Test {
-    InRange,
-    StartNotNegative,
-}
 
 // Rule 5: every number is in its range.
 fn segment_in_range(s: Segment) -> bool

@@ -4,8 +4,8 @@ use mathlib.Core.Path.{_≡_}
 use borrow.Author.Needs.{needs}
 use Rattle.lists.proofs.Tests.{passed, failed}
 use Rattle.book.specs.Rules.{within, segmentInRange}
-use Rattle.bidrules.proofs.segments.segment_in_range.Statement.{statement}
-use Rattle.bidrules.proofs.segments.segment_in_range.Tie as tie
+use Rattle.segmentrules.proofs.segments.segment_in_range.Statement.{statement}
+use Rattle.segmentrules.proofs.segments.segment_in_range.Tie as tie
 
 -- what each test shows
 start-kept : (c : tie.Else1) → within 1 1000000 (c .before .before .args .s .start .0) ≡ true

@@ -11,9 +11,9 @@ use Rattle.lists.proofs.Slices.{length-held}
 use Rattle.lists.proofs.Everywhere.{every-next, every-stop, every-done, every-within}
 use Rattle.book.specs.Entries.{bidEntries}
 use Rattle.book.proofs.Records.{noSegment}
-use Rattle.bidrules.specs.Tests.{testOf, askedOf}
-use Rattle.bidrules.proofs.segments.all_pass.Statement.{statement}
-use Rattle.bidrules.proofs.segments.all_pass.Tie as tie
+use Rattle.segmentrules.specs.Tests.{testOf, askedOf}
+use Rattle.segmentrules.proofs.segments.all_pass.Statement.{statement}
+use Rattle.segmentrules.proofs.segments.all_pass.Tie as tie
 
 abbrev Inv-loop : tie.InvT-loop
 Inv-loop test bid i₀ i = (i ≤ bid .count) × (every (testOf test) (bidEntries bid .segments) ≡ every (testOf test) (slice i (bid .count) (bid .segments)))
