@@ -1,50 +1,59 @@
 // Whether clearing gives what the second clearing gives: verdict, demand, total, and all six columns of every row; and zeros and
-// `Nothing` in the rows past the bids, which are all rows beside a refusal. Numbers are equal if they differ in no bit.
+// `Nothing` in the rows past the bids, which are all rows beside a refusal.
+use crate::small_books::SmallBook;
 use crate::splits;
 use crate::splits::Cheapest;
 use award::Award;
 use award::Row;
 use award::Total;
-use book::Book;
 use clearing::Clearing;
 use money::Cents;
+use refusal::Verdict;
 
-pub fn agrees(book: Book, best: Cheapest, r: Clearing) -> bool {
-    if best.total < splits::NONE {
-        return award_agrees(book, best, r, 0, book.demand.0, book.count);
-    }
-    award_agrees(book, best, r, 9, 0, 0)
+// A row as it should be: amounts in cents, and `NONE` for `Nothing`.
+struct Expected {
+    bidder: u64,
+    segment: u64,
+    quantity: u64,
+    price: u64,
+    sample: u64,
+    without: u64,
 }
 
-// By this number, at place 0, with this demand and count of rows.
-fn award_agrees(
-    book: Book,
-    best: Cheapest,
-    r: Clearing,
-    number: u64,
-    demand: u64,
-    count: usize,
-) -> bool {
+// Beside a refusal the award is that of a book without bids and demand.
+pub fn agrees(book: SmallBook, best: Cheapest, r: Clearing) -> bool {
     let verdict = r.verdict;
     let award = r.award;
-    let total = award.total;
-    let said = (refusal::number(verdict) ^ number) | refusal::place(verdict);
-    let head = (award.demand.0 ^ demand) | (amount(total) ^ best.total % splits::NONE);
-    if (said | head) != 0 {
-        return false;
+    if best.total < splits::NONE {
+        return is_number(verdict, 0) && award_agrees(award, book, best);
     }
-    if award.count != count {
-        return false;
-    }
-    rows_agree(award, book, best)
+    let mut none = book;
+    none.demand = 0;
+    none.count = 0;
+    is_number(verdict, 9) && award_agrees(award, none, best)
 }
 
-fn rows_agree(award: Award, book: Book, best: Cheapest) -> bool {
-    let count = award.count;
+// At place 0.
+fn is_number(verdict: Verdict, number: u64) -> bool {
+    refusal::number(verdict) == number && refusal::place(verdict) == 0
+}
+
+fn award_agrees(award: Award, book: SmallBook, best: Cheapest) -> bool {
+    let total = award.total;
+    if award.demand.0 != book.demand {
+        return false;
+    }
+    if award.count != book.count {
+        return false;
+    }
+    amount(total) == best.total % splits::NONE && rows_agree(award, book, best)
+}
+
+fn rows_agree(award: Award, book: SmallBook, best: Cheapest) -> bool {
     let mut i: usize = 0;
     while i < 8 {
         let row = award.rows[i];
-        if !row_agrees(row, i, count, book, best) {
+        if !row_agrees(row, row_of(book, best, i)) {
             return false;
         }
         i += 1;
@@ -52,30 +61,49 @@ fn rows_agree(award: Award, book: Book, best: Cheapest) -> bool {
     true
 }
 
-// Row i of `count` that are not blank. The samples are those of the printed table for quantities as far as 8.
-fn row_agrees(row: Row, i: usize, count: usize, book: Book, best: Cheapest) -> bool {
+fn row_of(book: SmallBook, best: Cheapest, i: usize) -> Expected {
+    if book.count <= i {
+        return Expected {
+            bidder: 0,
+            segment: 0,
+            quantity: 0,
+            price: 0,
+            sample: 0,
+            without: splits::NONE,
+        };
+    }
+    let bid = book.bids[i % 3];
+    let quantity = splits::quantity(best.split, i);
+    let offer = splits::asked(bid, quantity);
+    Expected {
+        bidder: bid.bidder,
+        segment: offer.segment,
+        quantity,
+        price: offer.price,
+        sample: sample(quantity),
+        without: splits::clear(book, i).total,
+    }
+}
+
+// The printed table as far as 8.
+fn sample(quantity: u64) -> u64 {
+    match quantity {
+        0 => 0,
+        1 => 1,
+        _ => 2,
+    }
+}
+
+// Two numbers are equal if they differ in no bit.
+fn row_agrees(row: Row, e: Expected) -> bool {
     let price = row.price;
     let without = row.without;
-    let total = total(without);
-    if count <= i {
-        return (row.bidder
-            | row.segment
-            | row.quantity.0
-            | amount(price)
-            | row.sample.0
-            | (total ^ splits::NONE))
-            == 0;
-    }
-    let bid = book.bids[i % 8];
-    let quantity = splits::quantity(best.split, i);
-    let offer = splits::offered(book, 3, i, quantity);
-    let samples = [0, 1, 2, 2, 2, 2, 2, 2, 2];
-    let sample = samples[(quantity % 9) as usize];
-    let left = splits::clear(book, i).total;
-    let numbers = (row.bidder ^ bid.bidder)
-        | (row.segment ^ offer.segment)
-        | (row.quantity.0 ^ quantity);
-    let amounts = (amount(price) ^ offer.price) | (row.sample.0 ^ sample) | (total ^ left);
+    let numbers = (row.bidder ^ e.bidder)
+        | (row.segment ^ e.segment)
+        | (row.quantity.0 ^ e.quantity);
+    let amounts = (amount(price) ^ e.price)
+        | (row.sample.0 ^ e.sample)
+        | (total(without) ^ e.without);
     (numbers | amounts) == 0
 }
 

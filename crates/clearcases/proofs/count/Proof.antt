@@ -5,10 +5,10 @@ use Rattle.clearcases.proofs.count.Statement.{statement}
 use Rattle.clearcases.proofs.count.Tie as tie
 
 abbrev Inv-loop : tie.InvT-loop
-Inv-loop counts₀ x₀ i₀ counts x i = i ≤ 400
+Inv-loop c₀ x₀ i₀ c x i = i ≤ 400
 
 abbrev μ-loop : tie.MeasureT-loop
-μ-loop counts₀ x₀ i₀ counts x i = 400 - i
+μ-loop c₀ x₀ i₀ c x i = 400 - i
 
 pub count-spec : {M : Type 1} → statement M
 count-spec =
@@ -16,5 +16,5 @@ count-spec =
     (tie.spec
     Inv-loop
     μ-loop
-    (λ c. search needs) (λ c κs. search needs) (λ c κs. search needs) (λ c κs. search needs) (λ c κs. search needs) (λ c. search needs)
-    (λ c. search needs) (λ c. search needs) (λ c. search needs))
+    (λ c. search needs) (λ c κs. search needs) (λ c κs. search needs) (λ c κs. search needs) (λ c. search needs) (λ c. search needs)
+    (λ c. search needs) (λ c. search needs))

@@ -5,10 +5,10 @@ use Rattle.clearcases.proofs.agree.rows_agree.Statement.{statement}
 use Rattle.clearcases.proofs.agree.rows_agree.Tie as tie
 
 abbrev Inv-loop : tie.InvT-loop
-Inv-loop book best award count i₀ i = i ≤ 8
+Inv-loop book best award i₀ i = i ≤ 8
 
 abbrev μ-loop : tie.MeasureT-loop
-μ-loop book best award count i₀ i = 8 - i
+μ-loop book best award i₀ i = 8 - i
 
 pub rows-agree-spec : {M : Type 1} → statement M
 rows-agree-spec =
@@ -16,5 +16,5 @@ rows-agree-spec =
     (tie.spec
     Inv-loop
     μ-loop
-    (λ c. search needs) (λ c. search needs) (λ c. search needs) (λ c κs. search needs) (λ c. search needs) (λ c. search needs)
-    (λ c. search needs) (λ c. search needs) (λ c. search needs))
+    (λ c. search needs) (λ c. search needs) (λ c. search needs) (λ c κs. search needs) (λ c κs. search needs) (λ c. search needs)
+    (λ c. search needs) (λ c. search needs) (λ c. search needs) (λ c. search needs))

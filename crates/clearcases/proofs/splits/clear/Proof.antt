@@ -1,14 +1,13 @@
--- There are 729 splits.
-use Prim.Native.Nat.{_-_, _≤_}
+-- The splits are numbered from 728 down.
 use borrow.Author.Needs.{needs}
 use Rattle.clearcases.proofs.splits.clear.Statement.{statement}
 use Rattle.clearcases.proofs.splits.clear.Tie as tie
 
 abbrev Inv-loop : tie.InvT-loop
-Inv-loop book struck best₀ split₀ best split = split ≤ 729
+Inv-loop book struck best₀ split₀ best split = Unit {0}
 
 abbrev μ-loop : tie.MeasureT-loop
-μ-loop book struck best₀ split₀ best split = 729 - split
+μ-loop book struck best₀ split₀ best split = split
 
 pub clear-spec : {M : Type 1} → statement M
 clear-spec =
@@ -16,5 +15,5 @@ clear-spec =
     (tie.spec
     Inv-loop
     μ-loop
-    (λ c. search needs) (λ c κs. search needs) (λ c κs. search needs) (λ c. search needs) (λ c. search needs) (λ c. search needs)
+    (λ c. search needs) (λ c. search needs) (λ c κs. search needs) (λ c κs. search needs) (λ c. search needs) (λ c. search needs)
     (λ c. search needs))
