@@ -29,7 +29,7 @@ fn segment(text: &[u8], from: Cursor) -> ParsedSegment
 {
     let parsed = numberline::line(text, from, b" (seg ", 2, b" ");
     let after_numbers = parsed.next;
-    let fixed = scanner::signed(text, after_numbers);
+    let fixed = numerals::signed(text, after_numbers);
     let after_fixed = fixed.next;
     let next = scanner::word(text, after_fixed, b")");
     ParsedSegment {

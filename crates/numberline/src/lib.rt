@@ -23,14 +23,14 @@ pub fn spaced(text: &[u8], from: Cursor, further: usize) -> ParsedNumbers
     ensures { λ r. ⌜ Scans (Spaced.numbers further) (now (text .entry)) from (Spaced.numbersIn further (valuesOf r)) (r .next) ⌝ }
     ensures { λ r. ⌜ r .next .at ≤ length (now (text .entry)) ⌝ }
 {
-    let one = scanner::number(text, from, 0);
+    let one = numerals::number(text, from, 0);
     let mut values: [u64; 4] = [0; 4];
     values[0] = one.value;
     let mut next = one.next;
     let mut i: usize = 0;
     while i < further {
         let between = scanner::word(text, next, b" ");
-        let parsed = scanner::number(text, between, 0);
+        let parsed = numerals::number(text, between, 0);
         i += 1;
         values[i] = parsed.value;
         next = parsed.next;

@@ -1,6 +1,3 @@
-mod Bytes
-mod Steps
+pub mod Bytes
+pub mod Steps
 mod Words
-mod Numbers
-mod Negatives
-mod Integers

@@ -1,8 +1,8 @@
 -- A number of thirteen digits fits a signed one. Assumes nothing.
-use Rattle.scanner.proofs.Negatives.{plus-is}
+use Rattle.numerals.proofs.Negatives.{plus-is}
 use borrow.Author.Needs.{needs}
-use Rattle.scanner.proofs.signs.plus.Statement.{statement}
-use Rattle.scanner.proofs.signs.plus.Tie as tie
+use Rattle.numerals.proofs.signs.plus.Statement.{statement}
+use Rattle.numerals.proofs.signs.plus.Tie as tie
 
 returns : tie.Need-returns
 returns c = plus-is (c .args .n) (c .pre)

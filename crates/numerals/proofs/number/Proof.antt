@@ -6,11 +6,10 @@ use lib.ListN.{length, getD}
 use Rattle.lists.proofs.Tests.{passed, failed}
 use Rattle.forms.proofs.DigitTests.{goes}
 use Rattle.forms.proofs.Number.{number}
-use Rattle.scanner.specs.declared.Cursor.{Cursor}
 use Rattle.scanner.proofs.Steps.{still, found, halted}
-use Rattle.scanner.proofs.Numbers.{Answered, Digits, first-within, first-digit, number-none, number-first, number-ends, number-stops, number-goes}
-use Rattle.scanner.proofs.number.Statement.{statement}
-use Rattle.scanner.proofs.number.Tie as tie
+use Rattle.numerals.proofs.Numbers.{Answered, Digits, first-within, first-digit, number-none, number-first, number-ends, number-stops, number-goes}
+use Rattle.numerals.proofs.number.Statement.{statement}
+use Rattle.numerals.proofs.number.Tie as tie
 
 abbrev Inv-loop : tie.InvT-loop
 Inv-loop text least at value₀ i₀ value i = (small : least ≤ 1) → Digits least small text at value i
@@ -26,18 +25,20 @@ returns c =
 is-first-at-requires : tie.Need-is-first-at-requires Inv-loop μ-loop
 is-first-at-requires c κs = c .before .before .pre .1
 
-stop-requires : tie.Need-stop-requires Inv-loop μ-loop
-stop-requires c κs = tt
+no-number-requires : tie.Need-no-number-requires Inv-loop μ-loop
+no-number-requires c κs = tt
 
 returns-2 : tie.Need-returns-2 Inv-loop μ-loop
 returns-2 c =
     let a = c .before .before .before .before .before .args in
-    let none = failed (c .before .before .is-first-at .ensures) (c .before .if2 .taken) in (
+    let none = failed (c .before .before .is-first-at .ensures) (c .before .if2 .taken) in
+    let within = c .before .before .before .before .before .pre .0 in
+    subst (Answered (a .least) (a .text .now) (a .from)) (sym (c .no-number .ensures)) (
       omega arith,
       (
-        λ small. halted (number (a .least) small) (a .text .now) (a .from) 0 (c .before .before .before .if1 .left) (a .from .at) (c .stop .result) (c .stop .ensures)
-            (number-none (a .least) small (a .text .now) (a .from .at) (c .before .before .before .before .before .pre .0) none),
-        subst (λ (n : Cursor). n .at ≤ length (a .text .now)) (sym (c .stop .ensures)) (c .before .before .before .before .before .pre .0),
+        λ small. halted (number (a .least) small) (a .text .now) (a .from) 0 (c .before .before .before .if1 .left) (a .from .at) _ refl
+            (number-none (a .least) small (a .text .now) (a .from .at) within none),
+        within,
       ),
     )
 
@@ -123,7 +124,7 @@ number-spec =
     μ-loop
     returns
     is-first-at-requires
-    stop-requires
+    no-number-requires
     returns-2
     shared-slice-read-value-of
     value-of-requires

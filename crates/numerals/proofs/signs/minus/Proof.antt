@@ -1,8 +1,8 @@
 -- A number of thirteen digits fits, and so does its negative. Assumes nothing.
-use Rattle.scanner.proofs.Negatives.{minus-fits, minus-is}
+use Rattle.numerals.proofs.Negatives.{minus-fits, minus-is}
 use borrow.Author.Needs.{needs}
-use Rattle.scanner.proofs.signs.minus.Statement.{statement}
-use Rattle.scanner.proofs.signs.minus.Tie as tie
+use Rattle.numerals.proofs.signs.minus.Statement.{statement}
+use Rattle.numerals.proofs.signs.minus.Tie as tie
 
 sub-result : tie.Need-sub-result
 sub-result c = minus-fits (c .args .n) (c .pre)

@@ -12,9 +12,9 @@ use Rattle.forms.proofs.Parse.{parsed, stopped}
 use Rattle.forms.proofs.DigitTests.{goesOn, isFirst, beginsNumber, goes}
 use Rattle.forms.proofs.Number.{number, number-parse, further, first-low, first-high}
 use Rattle.forms.proofs.Place.{Found, Stops}
 use Rattle.scanner.specs.declared.Cursor.{Cursor}
-use Rattle.scanner.specs.declared.ParsedNumber.{ParsedNumber}
-use Rattle.scanner.specs.Scans.{ScansNumber}
+use Rattle.numerals.specs.declared.ParsedNumber.{ParsedNumber}
+use Rattle.numerals.specs.ScansNumber.{ScansNumber}
 
 -- the first byte, looked at
 module _ (t : List ℕ) (at : ℕ) where

@@ -4,11 +4,11 @@ use mathlib.Core.Path.{sym, _∙_, subst}
 use lib.IntN.{ℤ}
 use Rattle.forms.proofs.Signed.{signed, from-0, from-1}
 use Rattle.forms.proofs.Place.{Reads}
-use Rattle.scanner.proofs.Integers.{begins-within, signed-minus, signed-plain}
-use Rattle.scanner.proofs.Negatives.{minus-kept, plus-kept}
+use Rattle.numerals.proofs.Integers.{begins-within, signed-minus, signed-plain}
+use Rattle.numerals.proofs.Negatives.{minus-kept, plus-kept}
 use borrow.Author.Needs.{needs}
-use Rattle.scanner.proofs.signed.Statement.{statement}
-use Rattle.scanner.proofs.signed.Tie as tie
+use Rattle.numerals.proofs.signed.Statement.{statement}
+use Rattle.numerals.proofs.signed.Tie as tie
 
 number-requires : tie.Need-number-requires
 number-requires c κs =

@@ -1,8 +1,8 @@
 -- The tests are those of the definition, one after the other. Assumes nothing.
 use native.Mathlib.Omega.{arith}
 use borrow.Author.Tests.{lt-ltb, le-ltb, le-leb, lt-leb}
-use Rattle.scanner.proofs.digits.goes_on.Statement.{statement}
-use Rattle.scanner.proofs.digits.goes_on.Tie as tie
+use Rattle.numerals.proofs.digits.goes_on.Statement.{statement}
+use Rattle.numerals.proofs.digits.goes_on.Tie as tie
 
 returns : tie.Need-returns
 returns c = rw (le-ltb 0 (c .before .args .v) (omega arith))

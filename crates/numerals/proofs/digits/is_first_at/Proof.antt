@@ -1,10 +1,10 @@
 -- The tests are those of the definition, one after the other. Assumes nothing.
 use borrow.Author.Needs.{needs}
 use borrow.Author.Tests.{le-leb, lt-leb}
-use Rattle.scanner.proofs.Numbers.{first-at, first-past}
+use Rattle.numerals.proofs.Numbers.{first-at, first-past}
 use borrow.Author.Needs.{needs}
-use Rattle.scanner.proofs.digits.is_first_at.Statement.{statement}
-use Rattle.scanner.proofs.digits.is_first_at.Tie as tie
+use Rattle.numerals.proofs.digits.is_first_at.Statement.{statement}
+use Rattle.numerals.proofs.digits.is_first_at.Tie as tie
 
 returns : tie.Need-returns
 returns c = let a = c .before .args in rw (first-past (a .text .now) (a .at) (a .least) (c .if1 .taken))

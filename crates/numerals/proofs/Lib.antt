@@ -1,0 +1,3 @@
+mod Numbers
+mod Negatives
+mod Integers
