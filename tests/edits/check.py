@@ -11,7 +11,9 @@ UNFIT = [
     (r"has no `\S+` that can be named from here", "a need that the code no longer has"),
     (r"is not in scope", "a name that is not there"),
     (r"expected type `\S*Need-\S+?`, but this has type `\S*Need-", "answers in another order than the needs"),
-    (r"arguments? (?:too many|too few)|too many arguments|too few arguments", "another number of needs than answers"),
+    (r"but this has type `\S*Need-\S+ →", "fewer answers than needs"),
+    (r"this λ is checked against [^\n]*which is not a function", "more answers than needs"),
+    (r"this λ has \d+ binders, but its type has room for only", "an answer for another kind of need"),
     (r"does not cover|not covered", "a form that is not covered"),
 ]
 # What only follows from another error: a caller whose callee is not proved.
