@@ -5,7 +5,8 @@
 #   path   a file, folder or heading that a page cites exists
 #   name   a name cited together with a file is declared in it
 #   edit   CLAIMS.md cites no must-fail edit that is not there, and its list of them is the one that tests/docs/edits.py makes; each edit says
-#          what it does and which function's contract it guards, and every public function of a library is guarded by two or more
+#          what it does and which function's contract it guards; every public function of a library is guarded by two or more, where those
+#          of crates below count, and every entry that README.md lists by one or more of its own crate
 #   crate  ARCHITECTURE.md names every crate of crates.txt, and its table of groups no other
 import glob
 import os
@@ -250,6 +251,17 @@ def cited_edits():
             yield number, word
 
 
+def listed_entries():
+    """The entries of README.md's tables, as the functions that they are: what `tender` hands on is `bookanswers`'."""
+    for _, line in parts("README.md")[1]:
+        for name in re.findall(r"`([a-z]+::[a-z_]+|boccelarch_[a-z]+)`", line.split("|")[1] if line.startswith("| `") else ""):
+            crate, _, function = name.rpartition("::")
+            crate = crate or "boccelarch"
+            if function not in edits.functions(crate):
+                crate = "bookanswers"
+            yield f"{crate}::{function}"
+
+
 def check_edits():
     there = edits.edits()
     names = {edit.name for edit in there}
@@ -264,6 +276,9 @@ def check_edits():
         for function in edits.public(crate):
             guards = [edit for edit in there if f"{crate}::{function}" in edit.guards]
             check(len(guards) >= 2, f"crates/{crate}", f"fewer than two edits guard {function}")
+    for entry in listed_entries():
+        own = [edit for edit in there if entry in edit.guards and edit.crate == entry.split("::")[0]]
+        check(own != [], "README.md", f"no edit of its own crate guards the entry {entry}")
     check(read(CLAIMS) == edits.page(), CLAIMS, "its list of edits is not that of the files: python3 tests/docs/edits.py makes it")
 
 

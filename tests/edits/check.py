@@ -1,6 +1,6 @@
 # That the must-fail edits show something. The gate leaves the log of each at target/must-fail/CRATE/EDIT/.log. An edit that adds a call or
-# renames a local makes the proof file unfit for the code, and is refused whatever the contract says; one of the right shape is refused
-# since a fact is false. The first error of the log tells them apart. Run from the repository's top (tests/edits/run does).
+# renames a local makes the proof file unfit for the code, and is refused whatever the contract says. The first error of the log shows
+# that. It does not show that the fact at which an edit of the right shape is refused is false: that is read by a person. Run from the repository's top (tests/edits/run does).
 import glob
 import os
 import re
