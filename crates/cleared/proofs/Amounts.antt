@@ -33,7 +33,8 @@ use Rattle.award.specs.declared.Total.{Total}
 use Rattle.award.specs.declared.Total.the-variants.{Amount, Nothing}
 use Rattle.award.specs.declared.Row.{Row}
 use Rattle.award.specs.Award.{rowOf}
-use Rattle.clearing.specs.Clearing.{awardOfBook, bookWithout, totalOf, totalWithout, awardRecord, clearOf}
+use Rattle.without.specs.Without.{awardOfBook, bookWithout, totalOf, totalWithout}
+use Rattle.clearing.specs.Clearing.{awardRecord, clearOf}
 use Rattle.cleared.specs.Awarded.{rowAt, awarded}
 use Rattle.cleared.proofs.Answers.{cleared}
 use Rattle.cleared.proofs.Counts.{few-bids, bids-within, bids-counted}

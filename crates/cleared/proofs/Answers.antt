@@ -12,7 +12,8 @@ use Rattle.book.specs.Rules.{bookVerdict}
 use Rattle.divisions.specs.Award.{Priced}
 use Rattle.award.specs.Award.{noAward}
 use Rattle.clearing.specs.declared.Clearing.{Clearing}
-use Rattle.clearing.specs.Clearing.{awardOfBook, clearOf}
+use Rattle.without.specs.Without.{awardOfBook}
+use Rattle.clearing.specs.Clearing.{clearOf}
 use Rattle.clearing.proofs.Answers.{rules-first, no-division, covered, division}
 use Rattle.cleared.proofs.Apart.{accepted-refused}
 

@@ -32,7 +32,8 @@ use Rattle.award.specs.declared.Total.the-variants.{Amount, Nothing}
 use Rattle.award.specs.declared.Row.{Row}
 use Rattle.award.specs.Award.{noRow, rowOf}
 use Rattle.clearing.specs.declared.Clearing.{Clearing}
-use Rattle.clearing.specs.Clearing.{awardOfBook, bookWithout, totalOf, totalWithout, clearOf}
+use Rattle.without.specs.Without.{awardOfBook, bookWithout, totalOf, totalWithout}
+use Rattle.clearing.specs.Clearing.{clearOf}
 use Rattle.clearing.proofs.Answers.{no-division, division}
 use Rattle.cleared.specs.OfBook.{DivisionOf, IsAwardOf}
 use Rattle.cleared.specs.Awarded.{rowAt, awarded}

@@ -10,7 +10,8 @@ use Rattle.book.specs.Entries.{BidEntries, BookEntries}
 use Rattle.divisions.specs.Award.{Priced}
 use Rattle.award.specs.declared.Row.{Row}
 use Rattle.award.specs.Award.{noRow, rowOf}
-use Rattle.clearing.specs.Clearing.{totalWithout, rowsFrom, awardRecord}
+use Rattle.without.specs.Without.{totalWithout}
+use Rattle.clearing.specs.Clearing.{rowsFrom, awardRecord}
 use Rattle.clearing.proofs.Made.{length-rows, row-at}
 use Rattle.cleared.specs.Awarded.{rowsOf, rowAt, awarded}
 

@@ -1,4 +1,4 @@
--- The answer of clearing by cases, and it and the total without a bidder from what the search found. Assumes nothing.
+-- The answer of clearing by cases, and from what the search found. Assumes nothing.
 use Prim.Native.Nat.{ℕ}
 use mathlib.Core.Bool.{true, false}
 use mathlib.Core.List.{List}
@@ -16,11 +16,12 @@ use Rattle.supply.specs.Supply.{suppliesOf}
 use Rattle.divisions.specs.Award.{Priced, awardOf}
 use Rattle.comparison.specs.declared.Best.{Best}
 use Rattle.comparison.specs.Records.{blanksIn, divisionIn, found}
-use Rattle.award.specs.declared.Total.the-variants.{Amount, Nothing}
 use Rattle.award.specs.declared.Row.{Row}
 use Rattle.award.specs.Award.{noRow}
 use Rattle.clearing.specs.declared.Clearing.{Clearing}
-use Rattle.clearing.specs.Clearing.{awardOfBook, bookWithout, totalOf, totalWithout, rowsFrom, awardRecord, refusedClearing, clearedBook, clearOf}
+use Rattle.without.specs.Without.{awardOfBook}
+use Rattle.without.proofs.Found.{award-some, award-none}
+use Rattle.clearing.specs.Clearing.{rowsFrom, awardRecord, refusedClearing, clearedBook, clearOf}
 
 -- A book's own refusal, no division, or an award.
 module _ (b : BookEntries) where
@@ -51,35 +52,14 @@ awarded book best rows = record {
   award = record { demand = book .demand; total = best .total; count = book .count; rows = rows };
 }
 
--- The search's answer for a record: a division, or that there is none.
-module _ (book : Book) (best : Best) (searched : found (book .count) best ≡ awardOf (book .demand .0) (suppliesOf (bookEntries book .bids))) where
-  award-some : best .found ≡ true → awardOfBook (bookEntries book) ≡ some (divisionIn (book .count) best)
-  unfolding awardOfBook
-  award-some h = sym searched ∙ rw h
+-- From the search's answer for the record of an accepted book: a division, or that there is none.
+module _ (book : Book) (best : Best) (searched : found (book .count) best ≡ awardOf (book .demand .0) (suppliesOf (bookEntries book .bids)))
+    (accepted : bookVerdict (bookEntries book) ≡ Accepted) where
+  pub clear-none : best .found ≡ false → refusedClearing (Refused NotCovered 0) ≡ clearOf (bookEntries book)
+  clear-none h = sym (no-division (bookEntries book) accepted (award-none book best searched h))
 
-  award-none : best .found ≡ false → awardOfBook (bookEntries book) ≡ none
-  unfolding awardOfBook
-  award-none h = sym searched ∙ rw h
-
-  -- where the record holds the book less the bid with index `at`
-  module _ (b : BookEntries) (at : ℕ) (less : bookEntries book ≡ bookWithout at b) where
-    total-is : (o : Option Priced) → awardOfBook (bookEntries book) ≡ o → totalOf o ≡ totalWithout b at
-    unfolding totalWithout
-    total-is o e = ap totalOf (sym e ∙ ap awardOfBook less)
-
-    pub total-amount : best .found ≡ true → Amount (best .total) ≡ totalWithout b at
-    total-amount h = total-is _ (award-some h)
-
-    pub total-nothing : best .found ≡ false → Nothing ≡ totalWithout b at
-    total-nothing h = total-is none (award-none h)
-
-  -- where it holds an accepted book
-  module _ (accepted : bookVerdict (bookEntries book) ≡ Accepted) where
-    pub clear-none : best .found ≡ false → refusedClearing (Refused NotCovered 0) ≡ clearOf (bookEntries book)
-    clear-none h = sym (no-division (bookEntries book) accepted (award-none h))
-
-    pub clear-award : best .found ≡ true → (rows : List Row)
-        → rows ≡ padded 8 noRow (rowsFrom (bookEntries book) 0 (bookEntries book .bids) (take (book .count) (blanksIn (best .quantities))))
-        → awarded book best rows ≡ clearOf (bookEntries book)
-    unfolding awardRecord
-    clear-award h rows e = rw e (sym (division (bookEntries book) (divisionIn (book .count) best) accepted (award-some h)))
+  pub clear-award : best .found ≡ true → (rows : List Row)
+      → rows ≡ padded 8 noRow (rowsFrom (bookEntries book) 0 (bookEntries book .bids) (take (book .count) (blanksIn (best .quantities))))
+      → awarded book best rows ≡ clearOf (bookEntries book)
+  unfolding awardRecord
+  clear-award h rows e = rw e (sym (division (bookEntries book) (divisionIn (book .count) best) accepted (award-some book best searched h)))

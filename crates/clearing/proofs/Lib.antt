@@ -1,4 +1,2 @@
-pub mod Less
-pub mod Searchable
 pub mod Made
 pub mod Answers

@@ -17,7 +17,8 @@ use Rattle.book.proofs.Bids.{length-entries, entry-at}
 use Rattle.comparison.specs.Records.{blanksIn}
 use Rattle.award.specs.declared.Row.{Row}
 use Rattle.award.specs.Award.{noRow, rowOf}
-use Rattle.clearing.specs.Clearing.{totalWithout, rowsFrom}
+use Rattle.without.specs.Without.{totalWithout}
+use Rattle.clearing.specs.Clearing.{rowsFrom}
 
 pub length-rows : (b : BookEntries) (k : ℕ) (bids : List BidEntries) (rs : List ℕ) → length bids ≡ length rs
     → length (rowsFrom b k bids rs) ≡ length bids

@@ -1,8 +1,7 @@
 -- What clearing gives for every book: document 01, sections "Price and allocation", "The sheet" and "What is turned down".
-use Prim.Native.Nat.{ℕ, suc, _-_}
-use mathlib.Core.List.{List, [], _∷_, _++_}
+use Prim.Native.Nat.{ℕ, suc}
+use mathlib.Core.List.{List, [], _∷_}
 use mathlib.Core.Option.{Option, some, none}
-use lib.ListN.{take, drop}
 use Rattle.lists.specs.Padded.{padded}
 use Rattle.refusal.specs.Checks.{whenAccepted}
 use Rattle.refusal.specs.declared.Rule.the-variants.{NotCovered}
@@ -10,31 +9,12 @@ use Rattle.refusal.specs.declared.Verdict.{Verdict}
 use Rattle.refusal.specs.declared.Verdict.the-variants.{Accepted, Refused}
 use Rattle.book.specs.Entries.{BidEntries, BookEntries}
 use Rattle.book.specs.Rules.{bookVerdict}
-use Rattle.supply.specs.Supply.{suppliesOf}
-use Rattle.divisions.specs.Award.{Priced, awardOf}
-use Rattle.award.specs.declared.Total.{Total}
-use Rattle.award.specs.declared.Total.the-variants.{Amount, Nothing}
+use Rattle.divisions.specs.Award.{Priced}
 use Rattle.award.specs.declared.Row.{Row}
 use Rattle.award.specs.declared.Award.{Award}
 use Rattle.award.specs.Award.{noRow, noAward, rowOf}
+use Rattle.without.specs.Without.{awardOfBook, totalWithout}
 use Rattle.clearing.specs.declared.Clearing.{Clearing}
-
--- the award of a book's bids, if they have a division
-unfoldable pub awardOfBook : BookEntries → Option Priced
-awardOfBook b = awardOf (b .demand) (suppliesOf (b .bids))
-
--- the book less the bid with index i, the rest as it is
-unfoldable pub bookWithout : ℕ → BookEntries → BookEntries
-bookWithout i b = record { demand = b .demand; count = b .count - 1; bids = take i (b .bids) ++ drop (suc i) (b .bids) }
-
--- the price of the award, or `none` where there is none
-abbrev pub totalOf : Option Priced → Total
-totalOf none = Nothing
-totalOf (some award) = Amount (record { 0 = award .cost })
-
--- the total that clearing would give if the bidder with index i alone had not bid
-unfoldable pub totalWithout : BookEntries → ℕ → Total
-totalWithout b i = totalOf (awardOfBook (bookWithout i b))
 
 -- a row for each bid from index i on, with its quantity
 unfoldable pub rowsFrom : BookEntries → ℕ → List BidEntries → List ℕ → List Row

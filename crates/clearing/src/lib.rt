@@ -1,6 +1,5 @@
 // Clearing a tender: the award of a bid book.
 ghost use mathlib.Core.Path.{_≡_};
-ghost use Prim.Native.Nat.{_≤_, _<_};
 ghost use lib.ListN.{take};
 ghost use Rattle.lists.specs.Padded.{padded};
 ghost use Rattle.refusal.specs.declared.Verdict.the-variants.{Accepted};
@@ -8,10 +7,9 @@ ghost use Rattle.book.specs.Entries.{bookEntries};
 ghost use Rattle.book.specs.Rules.{bookVerdict};
 ghost use Rattle.comparison.specs.Records.{blanksIn};
 ghost use Rattle.award.specs.Award.{noRow};
-ghost use Rattle.clearing.specs.Clearing.{bookWithout, totalWithout, rowsFrom, refusedClearing, clearOf};
+ghost use Rattle.clearing.specs.Clearing.{rowsFrom, refusedClearing, clearOf};
 use award::Award;
 use award::Row;
-use award::Total;
 use book::Book;
 use money::Blanks;
 use refusal::Rule;
@@ -31,38 +29,6 @@ pub fn refused(verdict: Verdict) -> Clearing
     Clearing { verdict, award }
 }
 
-// The book less the bid with this index.
-fn without(book: Book, at: usize) -> Book
-    requires { ⌜ (at < book .count) × (book .count ≤ 8) ⌝ }
-    ensures { λ r. ⌜ bookEntries r ≡ bookWithout at (bookEntries book) ⌝ }
-{
-    let count = book.count - 1;
-    let mut left = book;
-    left.count = count;
-    let mut i = at;
-    while i < count {
-        let bid = book.bids[i + 1];
-        left.bids[i] = bid;
-        i += 1;
-    }
-    left
-}
-
-// The total that clearing gives for the bids left: `Nothing` only where they have no division.
-fn total_without(book: Book, at: usize) -> Total
-    requires { ⌜ bookVerdict (bookEntries book) ≡ Accepted ⌝ }
-    requires { ⌜ at < book .count ⌝ }
-    ensures { λ r. ⌜ r ≡ totalWithout (bookEntries book) at ⌝ }
-{
-    let left = without(book, at);
-    let others = search::best_division(left);
-    if !others.found {
-        return Total::Nothing;
-    }
-    let total = others.total;
-    Total::Amount(total)
-}
-
 // A row for each bid.
 fn rows(book: Book, quantities: [Blanks; 8]) -> [Row; 8]
     requires { ⌜ bookVerdict (bookEntries book) ≡ Accepted ⌝ }
@@ -74,7 +40,7 @@ fn rows(book: Book, quantities: [Blanks; 8]) -> [Row; 8]
     while i < book.count {
         let bid = book.bids[i];
         let quantity = quantities[i];
-        let total = total_without(book, i);
+        let total = without::total(book, i);
         let row = award::row_of(bid, quantity, total);
         rows[i] = row;
         i += 1;

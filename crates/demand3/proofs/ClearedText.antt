@@ -19,7 +19,8 @@ use Rattle.award.specs.declared.Award.{Award}
 use Rattle.award.specs.declared.Row.{Row}
 use Rattle.award.specs.Award.{rowOf}
 use Rattle.clearing.specs.declared.Clearing.{Clearing}
-use Rattle.clearing.specs.Clearing.{awardOfBook, bookWithout, totalOf, awardRecord, clearOf}
+use Rattle.without.specs.Without.{awardOfBook, bookWithout, totalOf}
+use Rattle.clearing.specs.Clearing.{awardRecord, clearOf}
 use Rattle.cleared.specs.Awarded.{rowAt, awarded}
 use Rattle.cleared.proofs.Answers.{cleared}
 use Rattle.cleared.proofs.Demand3.{award-of-book, no-award-of-book, no-other-cheaper, one-inside, row-is, without-is}

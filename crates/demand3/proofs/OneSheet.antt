@@ -15,7 +15,7 @@ use Rattle.award.specs.declared.Row.{Row}
 use Rattle.award.specs.declared.Award.{Award}
 use Rattle.award.specs.Award.{noRow, rowOf}
 use Rattle.sheettext.specs.Sheet.{sheetText}
-use Rattle.clearing.specs.Clearing.{bookWithout}
+use Rattle.without.specs.Without.{bookWithout}
 use Rattle.cleared.specs.OfBook.{IsAwardOf}
 use Rattle.cleared.specs.Awarded.{rowsOf, rowAt, awarded}
 use Rattle.demand3.specs.TheAward.{TotalOf, bidAt, TheAward}

@@ -21,7 +21,8 @@ use Rattle.roundtrip.proofs.Reading.{Answered, by-length, by-reading, read-answ
 use Rattle.roundtrip.proofs.Back.{book-accepted}
 use Rattle.divisions.specs.Award.{Priced}
 use Rattle.clearing.specs.declared.Clearing.{Clearing}
-use Rattle.clearing.specs.Clearing.{awardOfBook, clearOf}
+use Rattle.without.specs.Without.{awardOfBook}
+use Rattle.clearing.specs.Clearing.{clearOf}
 use Rattle.clearing.proofs.Answers.{no-division, division}
 use Rattle.bookanswers.specs.BookAnswers.{bookOf}
 use Rattle.tender.specs.FromText.{clearText}

@@ -27,7 +27,8 @@ use Rattle.roundtrip.proofs.Back.{book-accepted}
 use Rattle.divisions.specs.Award.{Priced}
 use Rattle.sheettext.specs.Sheet.{sheetText}
 use Rattle.clearing.specs.declared.Clearing.{Clearing}
-use Rattle.clearing.specs.Clearing.{awardOfBook, clearOf}
+use Rattle.without.specs.Without.{awardOfBook}
+use Rattle.clearing.specs.Clearing.{clearOf}
 use Rattle.clearing.proofs.Answers.{no-division, division}
 use Rattle.cleared.proofs.Demand3.{no-award-of-book}
 use Rattle.bookanswers.specs.BookAnswers.{bookOf}

@@ -11,7 +11,7 @@ use Rattle.award.specs.declared.Total.{Total}
 use Rattle.award.specs.declared.Total.the-variants.{Amount, Nothing}
 use Rattle.award.specs.declared.Award.{Award}
 use Rattle.award.specs.Award.{rowOf}
-use Rattle.clearing.specs.Clearing.{bookWithout}
+use Rattle.without.specs.Without.{bookWithout}
 use Rattle.cleared.specs.OfBook.{DivisionOf, IsAwardOf}
 use Rattle.cleared.specs.Awarded.{rowAt, awarded}
 

@@ -13,7 +13,7 @@ use Rattle.choices.proofs.Choice.{fits, width, filled}
 use Rattle.choices.proofs.Search.{each, leaf, search}
 use Rattle.award.specs.Award.{rowOf}
 use Rattle.sheettext.specs.Sheet.{totalText, rowText, sheetText, refusalText}
-use Rattle.clearing.specs.Clearing.{bookWithout}
+use Rattle.without.specs.Without.{bookWithout}
 use Rattle.provedcases.specs.Table.{table}
 use Rattle.provedcases.proofs.Books.{books}
 use Rattle.provedcases.proofs.Bytes.{eqBytes}

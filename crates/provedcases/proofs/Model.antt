@@ -23,7 +23,8 @@ use Rattle.award.specs.declared.Total.{Total}
 use Rattle.award.specs.declared.Row.{Row}
 use Rattle.award.specs.Award.{noRow, rowOf}
 use Rattle.clearing.specs.declared.Clearing.{Clearing}
-use Rattle.clearing.specs.Clearing.{awardOfBook, bookWithout, totalOf, totalWithout, rowsFrom, awardRecord, clearedBook, clearOf, refusedClearing}
+use Rattle.without.specs.Without.{awardOfBook, bookWithout, totalOf, totalWithout}
+use Rattle.clearing.specs.Clearing.{rowsFrom, awardRecord, clearedBook, clearOf, refusedClearing}
 
 abbrev searchedBook : BookEntries → Option Priced
 searchedBook b = searched (b .demand) (suppliesOf (b .bids))

@@ -46,11 +46,11 @@ nothing-asked (s ∷ ss) = nothing-asked ss
 
 returns : tie.Need-returns
 unfolding bidVerdict
-returns c = simp (failed (c .before .within .ensures) (c .if1 .taken))
+returns c = rw (failed (c .before .within .ensures) (c .if1 .taken))
 
 returns-2 : tie.Need-returns-2
 unfolding bidVerdict bidInRange
-returns-2 c = simp (count-kept (c .before .before), failed (c .before .within2 .ensures) (c .if2 .taken))
+returns-2 c = rw (count-kept (c .before .before), failed (c .before .within2 .ensures) (c .if2 .taken))
 
 all-pass-requires : tie.Need-all-pass-requires
 all-pass-requires c κs = (few (c .before .before), nothing-asked _)
@@ -59,13 +59,13 @@ returns-3 : tie.Need-returns-3
 unfolding bidVerdict bidInRange
 returns-3 c =
     let e2 = c .before .before in
-    simp (count-kept (e2 .before .before), bidder-kept e2, failed (c .before .all-pass .ensures) (c .if3 .taken))
+    rw (count-kept (e2 .before .before), bidder-kept e2, failed (c .before .all-pass .ensures) (c .if3 .taken))
 
 returns-4 : tie.Need-returns-4
 unfolding bidVerdict
 returns-4 c =
     let e3 = c .before .before in
-    simp (count-kept (e3 .before .before .before .before), range-kept e3, le-ltb _ _ (c .if4 .taken))
+    rw (count-kept (e3 .before .before .before .before), range-kept e3, le-ltb _ _ (c .if4 .taken))
 
 returns-5 : tie.Need-returns-5
 unfolding bidVerdict
@@ -74,7 +74,7 @@ returns-5 c =
     let e3 = e4 .before .before in
     let above = lt-ltb _ _ (e4 .if4 .left) in
     let fails = failed (c .before .segments-rise .ensures) (c .if5 .taken) in
-    simp (count-kept (e3 .before .before .before .before), range-kept e3, above, fails)
+    rw (count-kept (e3 .before .before .before .before), range-kept e3, above, fails)
 
 all-pass-requires-2 : tie.Need-all-pass-requires-2
 all-pass-requires-2 c κs =
@@ -89,7 +89,7 @@ returns-6 c =
     let e3 = e4 .before .before in
     let above = lt-ltb _ _ (e4 .if4 .left) in
     let fails = failed (c .before .all-pass2 .ensures) (c .if6 .taken) in
-    simp (count-kept (e3 .before .before .before .before), range-kept e3, above, rise-kept e5, fails)
+    rw (count-kept (e3 .before .before .before .before), range-kept e3, above, rise-kept e5, fails)
 
 returns-7 : tie.Need-returns-7
 unfolding bidVerdict
@@ -99,7 +99,7 @@ returns-7 c =
     let e3 = e4 .before .before in
     let above = lt-ltb _ _ (e4 .if4 .left) in
     let passes = passed (c .before .all-pass2 .ensures) (c .if6 .left) in
-    simp (count-kept (e3 .before .before .before .before), range-kept e3, above, rise-kept e5, passes)
+    rw (count-kept (e3 .before .before .before .before), range-kept e3, above, rise-kept e5, passes)
 
 pub check-bid-spec : {M : Type 1} → statement M
 check-bid-spec =

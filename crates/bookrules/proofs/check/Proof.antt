@@ -19,30 +19,30 @@ some-bid c = lt-ltb 0 (c .before .before .before .args .book .count) (omega (ari
 
 returns : tie.Need-returns
 unfolding bookVerdict
-returns c = simp (failed (c .before .within .ensures) (c .if1 .taken))
+returns c = rw (failed (c .before .within .ensures) (c .if1 .taken))
 
 returns-2 : tie.Need-returns-2
 unfolding bookVerdict
-returns-2 c = simp (demand-kept (c .before), c .if2 .taken)
+returns-2 c = rw (demand-kept (c .before), c .if2 .taken)
 
 returns-3 : tie.Need-returns-3
 unfolding bookVerdict
 returns-3 c =
     let e2 = c .before .before .before in
     let verdict = c .enum-told .given .1 in
-    simp (demand-kept (e2 .before), some-bid e2, sym (c .before .before .check-bids .ensures) ∙ verdict) verdict
+    rw (demand-kept (e2 .before), some-bid e2, sym (c .before .before .check-bids .ensures) ∙ verdict) verdict
 
 returns-4 : tie.Need-returns-4
 unfolding bookVerdict
 returns-4 c =
     let e2 = c .before .before .before .before in
-    simp (demand-kept (e2 .before), some-bid e2, sym (c .before .before .before .check-bids .ensures) ∙ c .before .enum-told2 .given .1, lt-leb _ _ (c .if3 .taken))
+    rw (demand-kept (e2 .before), some-bid e2, sym (c .before .before .before .check-bids .ensures) ∙ c .before .enum-told2 .given .1, lt-leb _ _ (c .if3 .taken))
 
 returns-5 : tie.Need-returns-5
 unfolding bookVerdict
 returns-5 c =
     let e2 = c .before .before .before .before in
-    simp (demand-kept (e2 .before), some-bid e2, sym (c .before .before .before .check-bids .ensures) ∙ c .before .enum-told2 .given .1, le-leb _ _ (c .if3 .left))
+    rw (demand-kept (e2 .before), some-bid e2, sym (c .before .before .before .check-bids .ensures) ∙ c .before .enum-told2 .given .1, le-leb _ _ (c .if3 .left))
 
 pub check-spec : {M : Type 1} → statement M
 check-spec =

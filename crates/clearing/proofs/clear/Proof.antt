@@ -6,7 +6,7 @@ use Rattle.refusal.specs.declared.Verdict.the-variants.{Accepted}
 use Rattle.book.specs.Entries.{bookEntries}
 use Rattle.book.specs.Rules.{bookVerdict}
 use Rattle.clearing.specs.Clearing.{refusedClearing}
-use Rattle.clearing.proofs.Searchable.{searchable}
+use Rattle.without.proofs.Searchable.{searchable}
 use Rattle.clearing.proofs.Answers.{rules-first, clear-none, clear-award}
 use Rattle.clearing.proofs.clear.Statement.{statement}
 use Rattle.clearing.proofs.clear.Tie as tie

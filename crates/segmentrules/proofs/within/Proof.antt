@@ -4,10 +4,10 @@ use Rattle.segmentrules.proofs.within.Statement.{statement}
 use Rattle.segmentrules.proofs.within.Tie as tie
 
 returns : tie.Need-returns
-returns c = simp (lt-leb _ _ (c .if1 .taken))
+returns c = rw (lt-leb _ _ (c .if1 .taken))
 
 returns-2 : tie.Need-returns-2
-returns-2 c = simp (le-leb _ _ (c .if1 .left))
+returns-2 c = rw (le-leb _ _ (c .if1 .left))
 
 pub within-spec : {M : Type 1} → statement M
 within-spec = tie.close (tie.spec returns returns-2)

@@ -6,11 +6,11 @@ use Rattle.supply.proofs.on_segment.Tie as tie
 
 returns : tie.Need-returns
 unfolding on
-returns c = simp (lt-leb _ _ (c .if1 .taken))
+returns c = rw (lt-leb _ _ (c .if1 .taken))
 
 returns-2 : tie.Need-returns-2
 unfolding on
-returns-2 c = simp (le-leb _ _ (c .before .before .if1 .left))
+returns-2 c = rw (le-leb _ _ (c .before .before .if1 .left))
 
 pub on-segment-spec : {M : Type 1} → statement M
 on-segment-spec = tie.close (tie.spec returns returns-2)

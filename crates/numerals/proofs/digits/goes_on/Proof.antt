@@ -8,11 +8,11 @@ returns : tie.Need-returns
 returns c = rw (le-ltb 0 (c .before .args .v) (omega arith))
 
 returns-2 : tie.Need-returns-2
-returns-2 c = simp (le-ltb (c .before .before .args .v) 1000000000000 (c .if2 .taken), lt-ltb 0 (c .before .before .args .v) (omega arith))
+returns-2 c = rw (le-ltb (c .before .before .args .v) 1000000000000 (c .if2 .taken), lt-ltb 0 (c .before .before .args .v) (omega arith))
 
 returns-3 : tie.Need-returns-3
 returns-3 c =
-    simp (
+    rw (
       lt-ltb 0 (c .before .before .before .args .v) (omega arith),
       lt-ltb (c .before .before .before .args .v) 1000000000000 (omega arith),
       lt-leb 48 (c .before .before .before .args .b) (c .if3 .taken),
@@ -20,7 +20,7 @@ returns-3 c =
 
 returns-4 : tie.Need-returns-4
 returns-4 c =
-    simp (
+    rw (
       lt-ltb 0 (c .before .before .before .args .v) (omega arith),
       lt-ltb (c .before .before .before .args .v) 1000000000000 (omega arith),
       le-leb 48 (c .before .before .before .args .b) (c .if3 .left),

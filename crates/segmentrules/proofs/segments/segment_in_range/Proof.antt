@@ -19,24 +19,24 @@ unit-kept c = passed (c .before .within3 .ensures) (c .if3 .left)
 
 returns : tie.Need-returns
 unfolding segmentInRange
-returns c = simp (failed (c .before .within .ensures) (c .if1 .taken))
+returns c = rw (failed (c .before .within .ensures) (c .if1 .taken))
 
 returns-2 : tie.Need-returns-2
 unfolding segmentInRange
-returns-2 c = simp (start-kept (c .before .before), failed (c .before .within2 .ensures) (c .if2 .taken))
+returns-2 c = rw (start-kept (c .before .before), failed (c .before .within2 .ensures) (c .if2 .taken))
 
 returns-3 : tie.Need-returns-3
 unfolding segmentInRange
 returns-3 c =
     let e2 = c .before .before in
-    simp (start-kept (e2 .before .before), end-kept e2, failed (c .before .within3 .ensures) (c .if3 .taken))
+    rw (start-kept (e2 .before .before), end-kept e2, failed (c .before .within3 .ensures) (c .if3 .taken))
 
 returns-4 : tie.Need-returns-4
 unfolding segmentInRange
 returns-4 c =
     let e3 = c .before .before .before in
     let e2 = e3 .before .before in
-    simp (start-kept (e2 .before .before), end-kept e2, unit-kept e3, failed (c .before .at-most .ensures) (c .if4 .taken))
+    rw (start-kept (e2 .before .before), end-kept e2, unit-kept e3, failed (c .before .at-most .ensures) (c .if4 .taken))
 
 returns-5 : tie.Need-returns-5
 unfolding segmentInRange
@@ -44,7 +44,7 @@ returns-5 c =
     let e4 = c .before in
     let e3 = e4 .before .before .before in
     let e2 = e3 .before .before in
-    simp (start-kept (e2 .before .before), end-kept e2, unit-kept e3, passed (e4 .before .at-most .ensures) (e4 .if4 .left)) (c .at-most2 .ensures)
+    rw (start-kept (e2 .before .before), end-kept e2, unit-kept e3, passed (e4 .before .at-most .ensures) (e4 .if4 .left)) (c .at-most2 .ensures)
 
 pub segment-in-range-spec : {M : Type 1} → statement M
 segment-in-range-spec =

@@ -4,9 +4,9 @@ use mathlib.Core.Path.{_≡_}
 use borrow.Author.Needs.{needs}
 use lib.ListN.{length}
 use Rattle.lists.proofs.Slices.{length-held}
-use Rattle.clearing.proofs.Less.{Moved, moved-none, moved-next, moved-all}
-use Rattle.clearing.proofs.without.Statement.{statement}
-use Rattle.clearing.proofs.without.Tie as tie
+use Rattle.without.proofs.Less.{Moved, moved-none, moved-next, moved-all}
+use Rattle.without.proofs.book_without.Statement.{statement}
+use Rattle.without.proofs.book_without.Tie as tie
 
 abbrev Inv-loop : tie.InvT-loop
 Inv-loop at book count left₀ i₀ left i = Moved at book left i
@@ -33,8 +33,8 @@ returns c =
     let s = c .before .before in
     moved-all _ (s .args .t1) (s .pre .1) (held s) (at .left) (at .i) (at .inv) (c .loop-test .left)
 
-pub without-spec : {M : Type 1} → statement M
-without-spec =
+pub book-without-spec : {M : Type 1} → statement M
+book-without-spec =
     tie.close
     (tie.spec
     Inv-loop

@@ -8,7 +8,7 @@ use Rattle.lists.proofs.Removed.{removed, map-removed, removed-start, removed-n
 use Rattle.book.specs.declared.Book.{Book}
 use Rattle.book.specs.Entries.{bidEntries, bookEntries}
 use Rattle.book.proofs.Records.{noBid}
-use Rattle.clearing.specs.Clearing.{bookWithout}
+use Rattle.without.specs.Without.{bookWithout}
 
 -- the bids after index `at` and up to i have been moved
 pub record Moved (at : ℕ) (book left : Book) (i : ℕ) : Type 0 where

@@ -9,7 +9,7 @@ use Rattle.book.specs.Entries.{BookEntries, bookEntries}
 use Rattle.book.specs.Rules.{bookVerdict}
 use Rattle.book.proofs.Accepted.{AcceptedBid, book-accepted, all-accepted}
 use Rattle.search.specs.Searchable.{Searchable}
-use Rattle.clearing.specs.Clearing.{bookWithout}
+use Rattle.without.specs.Without.{bookWithout}
 
 module _ (b : BookEntries) (accepted : bookVerdict b ≡ Accepted) where
   pub searchable : Searchable b
