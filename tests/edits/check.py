@@ -1,6 +1,7 @@
 # That the must-fail edits show something. The gate leaves the log of each at target/must-fail/CRATE/EDIT/.log. An edit that adds a call or
 # renames a local makes the proof file unfit for the code, and is refused whatever the contract says. The first error of the log shows
-# that. It does not show that the fact at which an edit of the right shape is refused is false: that is read by a person. Run from the repository's top (tests/edits/run does).
+# that. It does not show that the fact at which an edit of the right shape is refused is false: that is read by a person. Run from the
+# repository's top (tests/edits/run does).
 import glob
 import os
 import re
@@ -14,6 +15,7 @@ UNFIT = [
     (r"but this has type `\S*Need-\S+ →", "fewer answers than needs"),
     (r"this λ is checked against [^\n]*which is not a function", "more answers than needs"),
     (r"this λ has \d+ binders, but its type has room for only", "an answer for another kind of need"),
+    (r"record `\S+` has no field|first differ where one has `\S+\.Lts\.After-\S+`", "a step that the code no longer has"),
     (r"does not cover|not covered", "a form that is not covered"),
 ]
 # What only follows from another error: a caller whose callee is not proved.

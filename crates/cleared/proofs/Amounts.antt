@@ -28,12 +28,12 @@ use Rattle.supply.proofs.Offers.{supply-small}
 use Rattle.sampling.specs.declared.Band.{Band}
 use Rattle.sampling.specs.Sampling.{printed, sampleAbove, sampleOf}
 use Rattle.divisions.specs.Division.{Allocation}
-use Rattle.divisions.specs.Award.{Priced}
+use Rattle.divisions.specs.Award.{Priced, awardOfBook}
 use Rattle.award.specs.declared.Total.{Total}
 use Rattle.award.specs.declared.Total.the-variants.{Amount, Nothing}
 use Rattle.award.specs.declared.Row.{Row}
 use Rattle.award.specs.Award.{rowOf}
-use Rattle.without.specs.Without.{awardOfBook, bookWithout, totalOf, totalWithout}
+use Rattle.without.specs.Without.{bookWithout, totalOf, totalWithout}
 use Rattle.clearing.specs.Clearing.{awardRecord, clearOf}
 use Rattle.cleared.specs.Awarded.{rowAt, awarded}
 use Rattle.cleared.proofs.Answers.{cleared}

@@ -22,7 +22,7 @@ use Rattle.book.proofs.Accepted.{book-accepted, all-accepted}
 use Rattle.supply.specs.Supply.{supplyOf, suppliesOf, on, offers, priceAt}
 use Rattle.supply.specs.Allocation.{total}
 use Rattle.divisions.specs.Division.{Allocation}
-use Rattle.divisions.specs.Award.{Priced, awardOf}
+use Rattle.divisions.specs.Award.{Priced, awardOf, awardOfBook}
 use Rattle.divisions.specs.Best.{insideCount}
 use Rattle.divisions.proofs.Without.{SellsNothing, same-award}
 use Rattle.divisions.proofs.Award.{as-many, award-is, no-award-iff}
@@ -32,7 +32,7 @@ use Rattle.award.specs.declared.Total.the-variants.{Amount, Nothing}
 use Rattle.award.specs.declared.Row.{Row}
 use Rattle.award.specs.Award.{noRow, rowOf}
 use Rattle.clearing.specs.declared.Clearing.{Clearing}
-use Rattle.without.specs.Without.{awardOfBook, bookWithout, totalOf, totalWithout}
+use Rattle.without.specs.Without.{bookWithout, totalOf, totalWithout}
 use Rattle.clearing.specs.Clearing.{clearOf}
 use Rattle.clearing.proofs.Answers.{no-division, division}
 use Rattle.cleared.specs.OfBook.{DivisionOf, IsAwardOf}

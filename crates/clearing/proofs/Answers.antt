@@ -13,13 +13,12 @@ use Rattle.book.specs.declared.Book.{Book}
 use Rattle.book.specs.Entries.{BookEntries, bookEntries}
 use Rattle.book.specs.Rules.{bookVerdict}
 use Rattle.supply.specs.Supply.{suppliesOf}
-use Rattle.divisions.specs.Award.{Priced, awardOf}
+use Rattle.divisions.specs.Award.{Priced, awardOf, awardOfBook}
 use Rattle.comparison.specs.declared.Best.{Best}
 use Rattle.comparison.specs.Records.{blanksIn, divisionIn, found}
 use Rattle.award.specs.declared.Row.{Row}
 use Rattle.award.specs.Award.{noRow}
 use Rattle.clearing.specs.declared.Clearing.{Clearing}
-use Rattle.without.specs.Without.{awardOfBook}
 use Rattle.without.proofs.Found.{award-some, award-none}
 use Rattle.clearing.specs.Clearing.{rowsFrom, awardRecord, refusedClearing, clearedBook, clearOf}
 

@@ -9,11 +9,11 @@ use Rattle.refusal.specs.declared.Verdict.{Verdict}
 use Rattle.refusal.specs.declared.Verdict.the-variants.{Accepted, Refused}
 use Rattle.book.specs.Entries.{BidEntries, BookEntries}
 use Rattle.book.specs.Rules.{bookVerdict}
-use Rattle.divisions.specs.Award.{Priced}
+use Rattle.divisions.specs.Award.{Priced, awardOfBook}
 use Rattle.award.specs.declared.Row.{Row}
 use Rattle.award.specs.declared.Award.{Award}
 use Rattle.award.specs.Award.{noRow, noAward, rowOf}
-use Rattle.without.specs.Without.{awardOfBook, totalWithout}
+use Rattle.without.specs.Without.{totalWithout}
 use Rattle.clearing.specs.declared.Clearing.{Clearing}
 
 -- a row for each bid from index i on, with its quantity

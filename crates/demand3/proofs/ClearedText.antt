@@ -14,12 +14,12 @@ use Rattle.reader.specs.Reading.{readOf}
 use Rattle.refusal.proofs.Firsts.{refused-not}
 use Rattle.roundtrip.proofs.Reading.{accepted-as}
 use Rattle.roundtrip.proofs.Back.{text-read, zeros-past, book-accepted, arrays-read}
-use Rattle.divisions.specs.Award.{Priced}
+use Rattle.divisions.specs.Award.{Priced, awardOfBook}
 use Rattle.award.specs.declared.Award.{Award}
 use Rattle.award.specs.declared.Row.{Row}
 use Rattle.award.specs.Award.{rowOf}
 use Rattle.clearing.specs.declared.Clearing.{Clearing}
-use Rattle.without.specs.Without.{awardOfBook, bookWithout, totalOf}
+use Rattle.without.specs.Without.{bookWithout, totalOf}
 use Rattle.clearing.specs.Clearing.{awardRecord, clearOf}
 use Rattle.cleared.specs.Awarded.{rowAt, awarded}
 use Rattle.cleared.proofs.Answers.{cleared}

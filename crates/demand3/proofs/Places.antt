@@ -19,9 +19,8 @@ use Rattle.reader.specs.declared.BookRead.{BookRead}
 use Rattle.reader.specs.Reading.{bookAnswer, readOf}
 use Rattle.roundtrip.proofs.Reading.{Answered, by-length, by-reading, read-answered}
 use Rattle.roundtrip.proofs.Back.{book-accepted}
-use Rattle.divisions.specs.Award.{Priced}
+use Rattle.divisions.specs.Award.{Priced, awardOfBook}
 use Rattle.clearing.specs.declared.Clearing.{Clearing}
-use Rattle.without.specs.Without.{awardOfBook}
 use Rattle.clearing.specs.Clearing.{clearOf}
 use Rattle.clearing.proofs.Answers.{no-division, division}
 use Rattle.bookanswers.specs.BookAnswers.{bookOf}

@@ -7,6 +7,8 @@ use lib.Dec.{eqb, ltb}
 use lib.IntN.{ℤ}
 use lib.Signed.{ltZ, leZ}
 use Rattle.book.specs.declared.Segment.{Segment}
+use Rattle.book.specs.Entries.{BookEntries}
+use Rattle.supply.specs.Supply.{suppliesOf}
 use Rattle.supply.specs.Allocation.{costOf}
 use Rattle.divisions.specs.Listing.{divisions}
 
@@ -41,3 +43,7 @@ bestOf (d ∷ ds) = pick (bestOf ds) d
 -- the best of all divisions, or none where there is no division
 unfoldable pub awardOf : ℕ → List (List Segment) → Option Priced
 awardOf demand supplies = bestOf (map (priced supplies) (divisions demand supplies))
+
+-- the award of a book's bids, if they have a division
+unfoldable pub awardOfBook : BookEntries → Option Priced
+awardOfBook b = awardOf (b .demand) (suppliesOf (b .bids))

@@ -15,7 +15,7 @@ use Rattle.book.specs.Entries.{BidEntries, BookEntries}
 use Rattle.book.specs.Rules.{bookVerdict}
 use Rattle.book.proofs.Accepted.{AcceptedBid, all-accepted}
 use Rattle.supply.specs.Supply.{suppliesOf}
-use Rattle.divisions.specs.Award.{Priced}
+use Rattle.divisions.specs.Award.{Priced, awardOfBook}
 use Rattle.choices.proofs.Search.{searched}
 use Rattle.choices.proofs.Accepted.{sound-supplies}
 use Rattle.choices.proofs.Finds.{finds}
@@ -23,7 +23,7 @@ use Rattle.award.specs.declared.Total.{Total}
 use Rattle.award.specs.declared.Row.{Row}
 use Rattle.award.specs.Award.{noRow, rowOf}
 use Rattle.clearing.specs.declared.Clearing.{Clearing}
-use Rattle.without.specs.Without.{awardOfBook, bookWithout, totalOf, totalWithout}
+use Rattle.without.specs.Without.{bookWithout, totalOf, totalWithout}
 use Rattle.clearing.specs.Clearing.{rowsFrom, awardRecord, clearedBook, clearOf, refusedClearing}
 
 abbrev searchedBook : BookEntries → Option Priced

@@ -6,11 +6,11 @@ use mathlib.Core.Path.{_≡_, sym, ap, _∙_}
 use Rattle.book.specs.declared.Book.{Book}
 use Rattle.book.specs.Entries.{BookEntries, bookEntries}
 use Rattle.supply.specs.Supply.{suppliesOf}
-use Rattle.divisions.specs.Award.{Priced, awardOf}
+use Rattle.divisions.specs.Award.{Priced, awardOf, awardOfBook}
 use Rattle.comparison.specs.declared.Best.{Best}
 use Rattle.comparison.specs.Records.{divisionIn, found}
 use Rattle.award.specs.declared.Total.the-variants.{Amount, Nothing}
-use Rattle.without.specs.Without.{awardOfBook, bookWithout, totalOf, totalWithout}
+use Rattle.without.specs.Without.{bookWithout, totalOf, totalWithout}
 
 -- The search's answer for a record: a division, or that there is none.
 module _ (book : Book) (best : Best) (searched : found (book .count) best ≡ awardOf (book .demand .0) (suppliesOf (bookEntries book .bids))) where

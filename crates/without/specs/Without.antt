@@ -1,17 +1,12 @@
--- The award of a book's bids, and the total without a bidder: document 01, section "The sheet".
+-- The total without a bidder: document 01, section "The sheet".
 use Prim.Native.Nat.{ℕ, suc, _-_}
 use mathlib.Core.List.{_++_}
 use mathlib.Core.Option.{Option, some, none}
 use lib.ListN.{take, drop}
 use Rattle.book.specs.Entries.{BookEntries}
-use Rattle.supply.specs.Supply.{suppliesOf}
-use Rattle.divisions.specs.Award.{Priced, awardOf}
+use Rattle.divisions.specs.Award.{Priced, awardOfBook}
 use Rattle.award.specs.declared.Total.{Total}
 use Rattle.award.specs.declared.Total.the-variants.{Amount, Nothing}
-
--- the award of a book's bids, if they have a division
-unfoldable pub awardOfBook : BookEntries → Option Priced
-awardOfBook b = awardOf (b .demand) (suppliesOf (b .bids))
 
 -- the book less the bid with index i, the rest as it is
 unfoldable pub bookWithout : ℕ → BookEntries → BookEntries
