@@ -1,12 +1,10 @@
 # That the pages quote and cite what is there. Run from the repository's top (tests/docs/run does). Five kinds of check:
-#   quote  a fenced block whose first line names a file stands in that file, its lines one after the other; where a line of the block
-#          holds only `..`, lines of the file are left out: the pieces before and after it stand in the file in that order, apart.
-#          A piece from inside of a `module _ .. where` has that line quoted above it, since it holds what the piece is said of
+#   page   docs/STATEMENTS.md is what tests/docs/statements.py makes, and no other page quotes a file in a fenced block
 #   path   a file, folder or heading that a page cites exists
 #   name   a name cited together with a file is declared in it
-#   edit   CLAIMS.md cites no must-fail edit that is not there, and its list of them is the one that tests/docs/edits.py makes; each edit says
-#          what it does and which function's contract it guards; every public function of a library is guarded by two or more, where those
-#          of crates below count, and every entry that README.md lists by one or more of its own crate
+#   edit   CLAIMS.md cites no must-fail edit that is not there, and its list of them is the one that tests/docs/edits.py makes; each edit
+#          says what it does and which function's contract it guards; every public function of a library is guarded by two or more, where
+#          those of crates below count, and every entry that README.md lists by one or more of its own crate
 #   crate  ARCHITECTURE.md names every crate of crates.txt, and its table of groups no other
 import glob
 import os
@@ -14,8 +12,10 @@ import re
 import sys
 
 import edits
+import statements
 
-PAGES = ["README.md"] + sorted(glob.glob("docs/*.md"))
+# The template is checked as the page that is made of it.
+PAGES = ["README.md"] + [page for page in sorted(glob.glob("docs/*.md")) if page != statements.TEMPLATE]
 # The landing notes speak of the past: of them only links are checked, and paths written with docs/ or tests/ in front.
 NOTES = sorted(glob.glob("docs/landings/*.md"))
 
@@ -75,56 +75,21 @@ def paragraphs(prose):
 # ---- quotes
 
 
-def pieces_of(lines):
-    """A quote's pieces, which lines with only `..` part, each with the quoted lines above it."""
-    ends = [i for i, line in enumerate(lines) if line == ".."] + [len(lines)]
-    starts = [0] + [end + 1 for end in ends[:-1]]
-    return [(lines[start:end], lines[:start]) for start, end in zip(starts, ends)]
+def check_page():
+    try:
+        made = statements.page()
+    except statements.Fault as fault:
+        check(False, statements.PAGE, fault)
+    else:
+        same = read(statements.PAGE) == made
+        check(same, statements.PAGE, "not what its template and the files give: python3 tests/docs/statements.py makes it")
 
 
-def place_of(piece, whole, least):
-    """The first place, from `least` on, where the piece occurs in the file's lines, contiguously and unaltered; none of an empty one."""
-    tries = range(least, len(whole) - len(piece) + 1) if piece else ()
-    return next((i for i in tries if whole[i : i + len(piece)] == piece), None)
-
-
-def indent(line):
-    return len(line) - len(line.lstrip())
-
-
-def modules_above(whole, place):
-    """The lines `module _ .. where` that the line at the place stands under."""
-    inner = indent(whole[place])
-    for line in reversed(whole[:place]):
-        if line.strip() and indent(line) < inner:
-            inner = indent(line)
-            if line.lstrip().startswith("module "):
-                yield line
-
-
-def check_quote(where, path, lines):
-    whole, least = read(path).split("\n"), 0
-    for piece, above in pieces_of(lines):
-        place = place_of(piece, whole, least)
-        check(place is not None, where, f"not in {path}, or not in this order: {(piece or ['an empty quote'])[0].strip()}")
-        if place is None:
-            return
-        for line in modules_above(whole, place):
-            check(line in above, where, f"not quoted above {piece[0].strip()}: {line.strip()}")
-        # One line or more is left out between two pieces.
-        least = place + len(piece) + 1
-
-
-def check_quotes(page):
+def check_fences(page):
     marks = sum(line.startswith("```") for line in read(page).split("\n"))
     check(marks % 2 == 0, page, "a fenced block is not closed")
-    for number, info, lines in parts(page)[0]:
-        # An info string with a slash is meant as a path, so a wrong one is a fault and no block of another kind.
-        if "/" in info or os.path.isfile(info):
-            there = os.path.isfile(info)
-            check(there, f"{page}:{number}", f"no file {info} to quote from")
-            if there:
-                check_quote(f"{page}:{number}", info, lines)
+    for number, info, _ in parts(page)[0]:
+        check("/" not in info or page == statements.PAGE, f"{page}:{number}", f"a quote that nothing compares with {info}")
 
 
 # ---- paths
@@ -314,8 +279,9 @@ def check_crates():
 
 
 def main():
+    check_page()
     for page in PAGES:
-        check_quotes(page)
+        check_fences(page)
         check_paths(page, ())
         check_names(page)
     for page in NOTES:
