@@ -1,4 +1,5 @@
-# That the pages quote and cite what is there. Run from the repository's top (tests/docs/run does). Five kinds of check:
+# That the pages quote and cite what is there, and that the files keep three rules. Run from the repository's top (tests/docs/run does).
+# Eight kinds of check, the last three of the files:
 #   page   docs/STATEMENTS.md is what tests/docs/statements.py makes, and no other page quotes a file in a fenced block
 #   path   a file, folder or heading that a page cites exists
 #   name   a name cited together with a file is declared in it
@@ -6,6 +7,10 @@
 #          says what it does and which function's contract it guards; every public function of a library is guarded by two or more, where
 #          those of crates below count, and every entry that README.md lists by one or more of its own crate
 #   crate  ARCHITECTURE.md names every crate of crates.txt, and its table of groups no other
+#   layer  what is to be believed names nothing of proofs/: no definition of specs/ and no contract of src/, but for the exceptions below
+#   proof  a Proof.antt begins with a comment, which says why the function meets its contract
+#   named  nothing that a file of specs/ or proofs/ declares or binds, and no parameter, field or local of the code, has the name of a
+#          function of the library, which a reader would take it for
 import glob
 import os
 import re
@@ -35,6 +40,11 @@ def check(holds, where, fault):
 def read(path):
     with open(path, encoding="utf-8") as file:
         return file.read()
+
+
+def uncommented(path):
+    """A file of the code, or of its definitions and proofs, without what its comments say."""
+    return re.sub("(?:--|//).*", "", read(path))
 
 
 # ---- the parts of a page
@@ -278,6 +288,75 @@ def check_crates():
         check(name in listed, f"{ARCHITECTURE}:{number}", f"no crate {name} in crates.txt")
 
 
+# ---- layers
+
+# What is used of proofs/ all the same: file, name, reason.
+EXCEPTIONS = [
+    (
+        "crates/bookreader/specs/Reading.antt",
+        "booktext.proofs.BookForm.book-reading",
+        "`readOf` answers by the reading of a text that this proof gives; every other reading gives the same (`any-reading`)",
+    ),
+]
+# x.proofs.Y.{a, b}, or x.proofs.Y as a whole; the crate itself stands with a word more before it (x·proofs.proofs.Y).
+OF_PROOFS = re.compile(r"(?:Rattle·)?(?P<module>[\w·]+\.proofs(?:\.[\w-]+)*)(?:\.\{(?P<names>[^}]*)\})?")
+
+
+def used_proofs():
+    """What specs/ and the code name of proofs/, each with the file that does."""
+    for file in sorted(glob.glob("crates/*/specs/**/*.antt", recursive=True) + glob.glob("crates/*/src/**/*.rt", recursive=True)):
+        for used in OF_PROOFS.finditer(uncommented(file)):
+            for name in (used["names"] or "").split(","):
+                yield file, f"{used['module']}.{name.strip()}".rstrip(".")
+
+
+def check_layers():
+    used = list(used_proofs())
+    excepted = [(file, name) for file, name, _ in EXCEPTIONS]
+    for file, name in used:
+        check((file, name) in excepted, file, f"{name} is of proofs/")
+    for file, name in excepted:
+        check((file, name) in used, file, f"does not use {name}, for which tests/docs/check.py has an exception")
+
+
+# ---- what a proof begins with
+
+
+def check_proofs():
+    for file in sorted(glob.glob("crates/*/proofs/**/Proof.antt", recursive=True)):
+        check(bool(re.match(r"-- \S", read(file))), file, "its first line does not say why the function meets its contract")
+
+
+# ---- names of the library
+
+LIBRARY = r"(?P<name>length|take|drop|map|getD|set|replicate|natAbs|min|max|reverse)\b(?!-)"
+# What is declared, with a colon after it; what the left side of an equation binds; what (a b : A), λ a b. and let a or let (a, b) bind.
+STATED = [
+    r"^\s*(?:(?:pub|abbrev|unfoldable|record|data) )*NAME :",
+    r"^\s*[\w-]+ (?:[^=:;.→≡λ{}\n]*[ (,])?NAME[^=:;.→≡λ{}\n]*=(?: |$)",
+    r"[({](?:[^(){}:\n]* )?NAME[^(){}:\n]* :",
+    r"λ (?:[^.(\n]* )?NAME[^.(\n]*\.",
+    r"\blet (?:\((?:[^)\n]*[ (])?)?NAME[^=:\n]* [:=]",
+]
+# A parameter or field; what let binds; what the contract's λ binds.
+CODED = [r"(?<![\w.])NAME: ", r"\blet (?:mut )?(?:[\w:]*\((?:[^)\n]*[ (])?)?NAME", STATED[3]]
+
+
+def bound(file, forms):
+    """Where a file binds a name of the library, as line and name."""
+    text = uncommented(file)
+    for form in forms:
+        for found in re.finditer(form.replace("NAME", LIBRARY), text, re.M):
+            yield text.count("\n", 0, found.start("name")) + 1, found["name"]
+
+
+def check_library_names():
+    for pattern, forms in (("specs/**/*.antt", STATED), ("proofs/**/*.antt", STATED), ("src/**/*.rt", CODED)):
+        for file in sorted(glob.glob("crates/*/" + pattern, recursive=True)):
+            found = ", ".join(f"{name} in line {line}" for line, name in sorted(set(bound(file, forms))))
+            check(found == "", file, f"binds a name of the library: {found}")
+
+
 def main():
     check_page()
     for page in PAGES:
@@ -288,6 +367,9 @@ def main():
         check_paths(page, ("docs/", "tests/"))
     check_edits()
     check_crates()
+    check_layers()
+    check_proofs()
+    check_library_names()
     for fault in faults:
         print(fault)
     print(f"{passed} passed, {len(faults)} failed")
