@@ -86,13 +86,15 @@ def paragraphs(prose):
 
 
 def check_page():
+    here = read(statements.PAGE).split("\n")
     try:
-        made = statements.page()
+        made = statements.page().split("\n")
     except statements.Fault as fault:
         check(False, statements.PAGE, fault)
-    else:
-        same = read(statements.PAGE) == made
-        check(same, statements.PAGE, "not what its template and the files give: python3 tests/docs/statements.py makes it")
+        return
+    same = next((i for i, (a, b) in enumerate(zip(here, made)) if a != b), min(len(here), len(made)))
+    where = f"{statements.PAGE}:{same + 1}"
+    check(here == made, where, "not what its template and the files give: python3 tests/docs/statements.py makes it")
 
 
 def check_fences(page):
