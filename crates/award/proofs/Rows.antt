@@ -5,7 +5,7 @@ use Rattle.money.specs.declared.Blanks.{Blanks}
 use Rattle.money.specs.declared.Cents.{Cents}
 use Rattle.book.specs.Entries.{BidEntries}
 use Rattle.supply.specs.Supply.{supplyOf, priceAt, segmentNumber}
-use Rattle.sampling.specs.Sampling.{printed, sampleOf}
+use Rattle.sampling.specs.Sampling.{printedTable, sampleOf}
 use Rattle.award.specs.declared.Total.{Total}
 use Rattle.award.specs.declared.Row.{Row}
 use Rattle.award.specs.Award.{rowOf}
@@ -15,6 +15,6 @@ module _ (b : BidEntries) (quantity : Blanks) (without : Total) (segment : ℕ) 
   row = record { bidder = b .bidder; segment = segment; quantity = quantity; price = price; sample = sample; without = without }
 
   pub row-is : segment ≡ segmentNumber (supplyOf b) (quantity .0) → price .0 ≡ priceAt (supplyOf b) (quantity .0)
-      → sample .0 ≡ sampleOf printed (quantity .0) → row ≡ rowOf b (quantity .0) without
+      → sample .0 ≡ sampleOf printedTable (quantity .0) → row ≡ rowOf b (quantity .0) without
   unfolding rowOf
   row-is e f g = rw (e, ← f, ← g)

@@ -4,7 +4,7 @@ use lib.IntN.{pos}
 use lib.ListN.{replicate}
 use Rattle.book.specs.Entries.{BidEntries}
 use Rattle.supply.specs.Supply.{supplyOf, priceAt, segmentNumber}
-use Rattle.sampling.specs.Sampling.{printed, sampleOf}
+use Rattle.sampling.specs.Sampling.{printedTable, sampleOf}
 use Rattle.award.specs.declared.Total.{Total}
 use Rattle.award.specs.declared.Total.the-variants.{Nothing}
 use Rattle.award.specs.declared.Row.{Row}
@@ -31,6 +31,6 @@ rowOf b r without = record {
   segment = segmentNumber (supplyOf b) r;
   quantity = record { 0 = r };
   price = record { 0 = priceAt (supplyOf b) r };
-  sample = record { 0 = sampleOf printed r };
+  sample = record { 0 = sampleOf printedTable r };
   without = without;
 }

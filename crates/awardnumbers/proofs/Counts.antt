@@ -5,9 +5,9 @@ use mathlib.Core.List.{List}
 use mathlib.Core.Path.{_≡_, refl, sym, ap, _∙_, subst}
 use Rattle.refusal.specs.declared.Verdict.{Verdict}
 use Rattle.refusal.specs.declared.Verdict.the-variants.{Accepted, Refused}
-use Rattle.reader.specs.Reading.{readOf}
+use Rattle.bookreader.specs.Reading.{readOf}
 use Rattle.clearing.specs.declared.Clearing.{Clearing}
-use Rattle.cleared.proofs.Counts.{few-rows}
+use Rattle.awardtheorems.proofs.Counts.{few-rows}
 use Rattle.bookanswers.specs.BookAnswers.{bookOf}
 use Rattle.tender.specs.FromText.{clearText}
 

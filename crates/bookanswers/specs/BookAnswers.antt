@@ -1,4 +1,4 @@
--- What every text gets, of each answer that is worked out from its book alone. `room` is the length of the lent output and `out` its bytes.
+-- What every text gets, of each answer that is worked out from its book alone. `size` is the length of the lent output and `out` its bytes.
 use Prim.Native.Nat.{ℕ}
 use mathlib.Core.List.{List}
 use Rattle.refusal.specs.Checks.{whenAccepted}
@@ -9,7 +9,7 @@ use Rattle.book.specs.Room.{roomOf}
 use Rattle.booktext.specs.BookText.{bookText}
 use Rattle.output.specs.declared.TextWritten.{TextWritten}
 use Rattle.output.specs.Writing.{writtenOf, outputAfter}
-use Rattle.reader.specs.Reading.{readOf}
+use Rattle.bookreader.specs.Reading.{readOf}
 use Rattle.split.specs.declared.SplitPrice.{SplitPrice}
 use Rattle.split.specs.Split.{splitOf, refusedSplit}
 
@@ -24,7 +24,7 @@ answerOf answer refused t = whenAccepted (readOf t .verdict) (answer (bookOf t))
 -- ---- the book written out again
 
 unfoldable pub bookWritten : List ℕ → ℕ → TextWritten
-bookWritten t room = writtenOf (readOf t .verdict) (bookText (bookOf t)) room
+bookWritten t size = writtenOf (readOf t .verdict) (bookText (bookOf t)) size
 
 unfoldable pub bookOutput : List ℕ → List ℕ → List ℕ
 bookOutput t out = outputAfter (readOf t .verdict) (bookText (bookOf t)) out

@@ -13,20 +13,20 @@ pub fn write(text: &[u8], out: &mut [u8]) -> TextWritten
     ensures { λ r. ⌜ r ≡ bookWritten (now (text .entry)) (length (now (out .entry))) ⌝ }
     ensures { λ r. ⌜ now (out .exit) ≡ bookOutput (now (text .entry)) (now (out .entry)) ⌝ }
 {
-    let read = reader::read(text);
+    let read = bookreader::read(text);
     let verdict = read.verdict;
     if let Verdict::Refused(_, _) = verdict {
         return output::refused(verdict);
     }
     let book = read.book;
-    writer::write(book, out)
+    bookwriter::write(book, out)
 }
 
 // The room figure of a text's book.
 pub fn room(text: &[u8]) -> RoomFigure
     ensures { λ r. ⌜ r ≡ roomText (now (text .entry)) ⌝ }
 {
-    let read = reader::read(text);
+    let read = bookreader::read(text);
     let verdict = read.verdict;
     if let Verdict::Refused(_, _) = verdict {
         return RoomFigure { verdict, bytes: 0 };
@@ -39,7 +39,7 @@ pub fn room(text: &[u8]) -> RoomFigure
 pub fn price_split(text: &[u8], quantities: &[u64]) -> SplitPrice
     ensures { λ r. ⌜ r ≡ splitText (now (text .entry)) (now (quantities .entry)) ⌝ }
 {
-    let read = reader::read(text);
+    let read = bookreader::read(text);
     let verdict = read.verdict;
     if let Verdict::Refused(_, _) = verdict {
         return split::refused(verdict);

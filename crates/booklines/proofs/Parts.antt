@@ -7,7 +7,7 @@ use Rattle.forms.proofs.Form.{Form}
 use Rattle.forms.proofs.Word.{word}
 use Rattle.forms.proofs.Signed.{signed}
 use Rattle.forms.proofs.Spaced.{Numbers, numbers}
-use Rattle.forms.proofs.Pair.{pair, Follows}
+use Rattle.forms.proofs.Sequence.{sequence, Follows}
 use Rattle.forms.proofs.Place.{reads-both, reads-via}
 use Rattle.book.specs.declared.Segment.{Segment}
 use Rattle.book.specs.Entries.{BidEntries}
@@ -21,7 +21,7 @@ module _ (t : List ℕ) where
   -- one after the other, and parsed of another value
   then : {A B : Type 0} (p : Form A) (q : Form B) (follows : Follows p q) (from : Cursor) (a : A) (mid : Cursor) (b : B) (next : Cursor)
       → Scans p t from a mid → Scans q t mid b next
-      → Scans (pair p q follows) t from (a, b) next
+      → Scans (sequence p q follows) t from (a, b) next
   then p q follows from a mid b next x y =
       reads-both p q follows t (from .at) (from .stopped) a (mid .at) (mid .stopped) b (next .at) (next .stopped) x y
 

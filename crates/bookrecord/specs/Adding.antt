@@ -1,4 +1,4 @@
--- For the contracts of the functions that fill a record: a record with an entry more, stored where there is room, and counted.
+-- For the contracts of the functions that fill a record: a record with an entry more, stored where the array is not full, and counted.
 use Prim.Native.Nat.{ℕ, _+_}
 use mathlib.Core.Bool.{cond}
 use mathlib.Core.List.{List, foldl}
@@ -11,7 +11,7 @@ use Rattle.book.specs.Entries.{BidEntries}
 use Rattle.booktext.specs.Record.{bidRecord}
 
 abbrev pub added : {A : Type 0} → ℕ → List A → ℕ → A → List A
-added room xs count x = cond (ltb count room) (set xs count x) xs
+added places xs count x = cond (ltb count places) (set xs count x) xs
 
 abbrev pub withSegment : Bid → Segment → Bid
 withSegment b s = record { bidder = b .bidder; count = b .count + 1; segments = added 6 (b .segments) (b .count) s }

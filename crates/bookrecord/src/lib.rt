@@ -44,7 +44,7 @@ pub fn empty_book() -> Book
     }
 }
 
-// Where there is no room the segment is counted and not stored.
+// Where the array is full the segment is counted and not stored.
 pub fn with_segment(bid: Bid, segment: Segment) -> Bid
     requires { ⌜ bid .count < 18446744073709551615 ⌝ }
     ensures { λ r. ⌜ r ≡ withSegment bid segment ⌝ }
@@ -59,7 +59,7 @@ pub fn with_segment(bid: Bid, segment: Segment) -> Bid
     next
 }
 
-// Where there is no room the bid is counted and not stored.
+// Where the array is full the bid is counted and not stored.
 pub fn with_bid(book: Book, bid: Bid) -> Book
     requires { ⌜ book .count < 18446744073709551615 ⌝ }
     ensures { λ r. ⌜ r ≡ withBid book bid ⌝ }

@@ -6,7 +6,7 @@ ghost use Rattle.book.specs.Rules.{bidsVerdict};
 use book::Book;
 use refusal::Verdict;
 
-// How many of the counted bids are in the record, which has room for eight.
+// How many of the counted bids are in the record, which holds eight.
 fn held(count: usize) -> usize
     ensures { λ r. ⌜ r ≡ min count 8 ⌝ }
 {

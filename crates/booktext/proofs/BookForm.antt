@@ -14,7 +14,7 @@ use Rattle.forms.proofs.DigitTests.{NoDigit}
 use Rattle.forms.proofs.Signed.{signed}
 use Rattle.forms.proofs.Framed.{framed}
 use Rattle.forms.proofs.Spaced.{Numbers, numbers}
-use Rattle.forms.proofs.Pair.{pair, Follows}
+use Rattle.forms.proofs.Sequence.{sequence, Follows}
 use Rattle.forms.proofs.Via.{via, Same}
 use Rattle.forms.proofs.Many.{FirstByte}
 use Rattle.forms.proofs.Some.{one-or-more, one-or-more-headed}
@@ -39,7 +39,7 @@ abbrev pub segment-numbers : Form (Numbers 2)
 segment-numbers = framed (ascii " (seg ") (numbers 2) (ascii " ") space-closes
 
 abbrev pub fixed-close : Form (ℤ × Unit {0})
-fixed-close = pair signed (word (ascii ")")) signed-close
+fixed-close = sequence signed (word (ascii ")")) signed-close
 
 pub numbers-fixed : Follows segment-numbers fixed-close
 numbers-fixed b r v h = any (fixed-close .text b ++ r)
@@ -48,7 +48,7 @@ abbrev pub SegmentParts : Type 0
 SegmentParts = Numbers 2 × (ℤ × Unit {0})
 
 abbrev pub segment-parts : Form SegmentParts
-segment-parts = pair segment-numbers fixed-close numbers-fixed
+segment-parts = sequence segment-numbers fixed-close numbers-fixed
 
 abbrev pub toSegment : SegmentParts → Segment
 toSegment x =
@@ -82,7 +82,7 @@ pub segments-close : Follows segments (word (ascii ")\n"))
 segments-close b r v h = (tt, λ e. omega (arith, e))
 
 abbrev pub segments-line : Form (List Segment × Unit {0})
-segments-line = pair segments (word (ascii ")\n")) segments-close
+segments-line = sequence segments (word (ascii ")\n")) segments-close
 
 -- what stands before them: the bidder, and no further number
 abbrev pub bidFurther : ℕ
@@ -95,7 +95,7 @@ pub bid-numbers : Follows (word (ascii "(bid ")) (numbers bidFurther)
 bid-numbers b r v h = any (numbers bidFurther .text b ++ r)
 
 abbrev pub bid-head : Form BidHead
-bid-head = pair (word (ascii "(bid ")) (numbers bidFurther) bid-numbers
+bid-head = sequence (word (ascii "(bid ")) (numbers bidFurther) bid-numbers
 
 pub head-segments : Follows bid-head segments-line
 head-segments b r v h =
@@ -106,7 +106,7 @@ abbrev pub BidParts : Type 0
 BidParts = BidHead × (List Segment × Unit {0})
 
 abbrev pub bid-parts : Form BidParts
-bid-parts = pair bid-head segments-line head-segments
+bid-parts = sequence bid-head segments-line head-segments
 
 abbrev pub bidOf : BidHead → List Segment → BidEntries
 bidOf h xs = record { bidder = h .1; count = length xs; segments = xs }
@@ -154,7 +154,7 @@ abbrev pub BookParts : Type 0
 BookParts = Head × List BidEntries
 
 abbrev pub book-parts : Form BookParts
-book-parts = pair head bids head-bids
+book-parts = sequence head bids head-bids
 
 abbrev pub bookOf : Head → List BidEntries → BookEntries
 bookOf h xs = record { demand = h; count = length xs; bids = xs }

@@ -1,4 +1,4 @@
--- What the machine guarantees of a record's arrays: room for eight bids, and for six segments in each.
+-- What the machine guarantees of a record's arrays: eight places for bids, and six for segments in each.
 use mathlib.Core.Path.{_≡_}
 use lib.ListN.{length}
 use Rattle.lists.specs.All.{All}

@@ -1,4 +1,4 @@
--- The record of a text: its counts, the entries for which the record has room, and zeros past the counts. A count above the room
+-- The record of a text: its counts, the entries for which the record has a place, and zeros past the counts. A count above the places
 -- stays as it is, so that the rules for a record refuse it.
 use mathlib.Core.List.{map}
 use lib.IntN.{pos}

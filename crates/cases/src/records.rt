@@ -24,7 +24,7 @@ pub fn answer(line: &[u8], numbers: &[u8], quantities: &[u64], out: &mut [u8]) {
         b'p' => show::price(split::price_split(book, quantities)),
         b'a' => sheet(book, out),
         b'w' => {
-            let w = writer::write(book, out);
+            let w = bookwriter::write(book, out);
             show::output(w, out);
         }
         _ => sample(quantities),

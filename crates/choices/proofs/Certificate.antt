@@ -1,4 +1,4 @@
--- The certificate of shares, that `shares` has it, and that with it at most one bidder stands strictly inside. Assumes nothing.
+-- The certificate of extras, that `extras` has it, and that with it at most one bidder stands strictly inside. Assumes nothing.
 use Prim.Native.Nat.{ℕ, suc, _+_, _-_, _≤_, _<_}
 use native.Mathlib.Omega.{arith}
 use mathlib.Core.Bool.{Bool, true, false, cond}
@@ -10,7 +10,7 @@ use lib.Dec.{ltb}
 use Rattle.lists.proofs.Tests.{both-left, both-right}
 use Rattle.book.specs.declared.Segment.{Segment}
 use Rattle.supply.specs.Supply.{inside}
-use Rattle.choices.proofs.Choice.{width, cheaper, share, shares}
+use Rattle.choices.proofs.Choice.{width, cheaper, extra, extras}
 use Rattle.choices.proofs.Fill.{counts, cheaper-mono}
 
 -- what is taken is no dearer than u
@@ -32,27 +32,27 @@ Cert [] xs = Unit {0}
 Cert (s ∷ c) [] = Unit {0}
 Cert (s ∷ c) (x ∷ xs) = (x < width s → Under (s .unit .0) c xs) × (0 < x → Open (suc (s .unit .0)) c xs) × Cert c xs
 
-shares-under : (u left : ℕ) (c : List Segment) → left ≤ cheaper u c → Under u c (shares left c)
-shares-under u left [] h = tt
-shares-under u left (s ∷ c) h =
-    let x : ℕ = share left s c in
-    ⊎-elim (λ m. (λ k. m .0, shares-under u (left - x) c (omega (arith, cheaper-mono (s .unit .0) u c (m .0)))))
-    (λ m. (λ k. absurd (omega (arith, cheaper-mono u (s .unit .0) c (omega arith))), shares-under u (left - x) c (omega arith)))
+extras-under : (u left : ℕ) (c : List Segment) → left ≤ cheaper u c → Under u c (extras left c)
+extras-under u left [] h = tt
+extras-under u left (s ∷ c) h =
+    let x : ℕ = extra left s c in
+    ⊎-elim (λ m. (λ k. m .0, extras-under u (left - x) c (omega (arith, cheaper-mono (s .unit .0) u c (m .0)))))
+    (λ m. (λ k. absurd (omega (arith, cheaper-mono u (s .unit .0) c (omega arith))), extras-under u (left - x) c (omega arith)))
     (counts u s)
 
-shares-open : (u left : ℕ) (c : List Segment) → cheaper u c ≤ left → Open (suc u) c (shares left c)
-shares-open u left [] h = tt
-shares-open u left (s ∷ c) h =
-    let x : ℕ = share left s c in
-    ⊎-elim (λ m. let l = cheaper-mono (s .unit .0) u c (m .0) in (λ k. absurd (omega arith), shares-open u (left - x) c (omega arith)))
-    (λ m. (λ k. m .0, shares-open u (left - x) c (omega (arith, cheaper-mono u (s .unit .0) c (omega arith)))))
+extras-open : (u left : ℕ) (c : List Segment) → cheaper u c ≤ left → Open (suc u) c (extras left c)
+extras-open u left [] h = tt
+extras-open u left (s ∷ c) h =
+    let x : ℕ = extra left s c in
+    ⊎-elim (λ m. let l = cheaper-mono (s .unit .0) u c (m .0) in (λ k. absurd (omega arith), extras-open u (left - x) c (omega arith)))
+    (λ m. (λ k. m .0, extras-open u (left - x) c (omega (arith, cheaper-mono u (s .unit .0) c (omega arith)))))
     (counts u s)
 
-pub shares-cert : (left : ℕ) (c : List Segment) → Cert c (shares left c)
-shares-cert left [] = tt
-shares-cert left (s ∷ c) =
-    let x : ℕ = share left s c in
-    (λ h. shares-under (s .unit .0) (left - x) c (omega arith), λ h. shares-open (s .unit .0) (left - x) c (omega arith), shares-cert (left - x) c)
+pub extras-cert : (left : ℕ) (c : List Segment) → Cert c (extras left c)
+extras-cert left [] = tt
+extras-cert left (s ∷ c) =
+    let x : ℕ = extra left s c in
+    (λ h. extras-under (s .unit .0) (left - x) c (omega arith), λ h. extras-open (s .unit .0) (left - x) c (omega arith), extras-cert (left - x) c)
 
 -- how many bidders stand strictly inside the segments chosen
 abbrev pub insides : List Segment → List ℕ → ℕ

@@ -35,15 +35,15 @@ cheaper unit [] = 0
 cheaper unit (s ∷ c) = widthAt unit s + cheaper unit c
 
 -- what the latest bidder gets over its start: what those before it who are no dearer cannot take, and no more than its width
-abbrev pub share : ℕ → Segment → List Segment → ℕ
-share left s c = min (width s) (left - cheaper (s .unit .0) c)
+abbrev pub extra : ℕ → Segment → List Segment → ℕ
+extra left s c = min (width s) (left - cheaper (s .unit .0) c)
 
 -- what each bidder gets over its start, where there is so much left to give
-abbrev pub shares : ℕ → List Segment → List ℕ
-shares left [] = []
-shares left (s ∷ c) = share left s c ∷ shares (left - share left s c) c
+abbrev pub extras : ℕ → List Segment → List ℕ
+extras left [] = []
+extras left (s ∷ c) = extra left s c ∷ extras (left - extra left s c) c
 
--- the quantities with these shares
+-- the quantities with these extras
 abbrev pub placed : List Segment → List ℕ → List ℕ
 placed [] xs = []
 placed (s ∷ c) [] = []
@@ -56,9 +56,9 @@ costWith (s ∷ c) [] = pos 0
 costWith (s ∷ c) (x ∷ xs) = priceOn s (s .start .0 + x) +ℤ costWith c xs
 
 -- what the demand leaves over the starts, given out
-abbrev pub sharesOf : ℕ → List Segment → List ℕ
-sharesOf demand c = shares (demand - starts c) c
+abbrev pub extrasOf : ℕ → List Segment → List ℕ
+extrasOf demand c = extras (demand - starts c) c
 
 -- the quantities of a choice, in book order, and their cost
 unfoldable pub filled : ℕ → List Segment → Priced
-filled demand c = record { cost = costWith c (sharesOf demand c); quantities = reverse (placed c (sharesOf demand c)) }
+filled demand c = record { cost = costWith c (extrasOf demand c); quantities = reverse (placed c (extrasOf demand c)) }

@@ -1,4 +1,4 @@
--- A segment chosen from each supply function, in book order, and a share of its width: these are the allocations. Assumes nothing.
+-- A segment chosen from each supply function, in book order, and a extra of its width: these are the allocations. Assumes nothing.
 use Prim.Native.Nat.{ℕ, _+_, _-_, _≤_}
 use native.Mathlib.Omega.{arith}
 use mathlib.Core.Bool.{Bool, true, false, cond, or-true, false≢true}
@@ -13,7 +13,7 @@ use Rattle.book.proofs.InRange.{within-low, within-high}
 use Rattle.supply.specs.Supply.{on, offers}
 use Rattle.supply.specs.Allocation.{costOf}
 use Rattle.divisions.specs.Division.{Allocation}
-use Rattle.divisions.specs.Best.{insideCount}
+use Rattle.divisions.specs.IsAward.{insideCount}
 use Rattle.choices.proofs.Choice.{width, placed}
 use Rattle.choices.proofs.Sound.{SoundSegment, SoundSupply}
 use Rattle.choices.proofs.Fill.{cost}
@@ -42,20 +42,20 @@ offers-when [] s r m o = absurd (List·Memᴰ·not-nil m)
 offers-when (t ∷ ts) s r (here e) o = let o′ : on t r ≡ true = rw e at o in rw o′
 offers-when (t ∷ ts) s r (there m) o = rw (offers-when ts s r m o) (or-true (on t r))
 
--- a quantity that is offered is on a segment, with a share of its width
+-- a quantity that is offered is on a segment, with a extra of its width
 record OnSegment (ss : List Segment) (r : ℕ) : Type 0 where
   segment : Segment
-  share : ℕ
+  extra : ℕ
   chosen : In segment ss
-  within : share ≤ width segment
-  quantity : r ≡ segment .start .0 + share
+  within : extra ≤ width segment
+  quantity : r ≡ segment .start .0 + extra
 
 offered-here : (s : Segment) (ss : List Segment) (r : ℕ) → on s r ≡ true → OnSegment (s ∷ ss) r
 unfolding on width
 offered-here s ss r e =
     let low = within-low (s .start .0) (s .end .0) r e in
     let high = within-high (s .start .0) (s .end .0) r e in
-    record { segment = s; share = r - s .start .0; chosen = here refl; within = omega arith; quantity = omega arith }
+    record { segment = s; extra = r - s .start .0; chosen = here refl; within = omega arith; quantity = omega arith }
 
 offered : (ss : List Segment) (r : ℕ) → offers ss r ≡ true → OnSegment ss r
 unfolding offers
@@ -66,7 +66,7 @@ offered (s ∷ ss) r e = go (on s r) refl (λ f. offered ss r (rw f at e))
     go true f later = offered-here s ss r f
     go false f later =
         let o = later f in
-        record { segment = o .segment; share = o .share; chosen = there (o .chosen); within = o .within; quantity = o .quantity }
+        record { segment = o .segment; extra = o .extra; chosen = there (o .chosen); within = o .within; quantity = o .quantity }
 
 -- All of them.
 
@@ -106,4 +106,4 @@ allocation-chosen [] [] a = ([], [], tt, refl)
 allocation-chosen (ss ∷ supplies) (r ∷ rs) a =
     let o = offered ss r (a .0) in
     let (c, xs, l, e) = allocation-chosen supplies rs (a .1) in
-    (o .segment ∷ c, o .share ∷ xs, (o .chosen, o .within, l), ap₂ _∷_ (o .quantity) e)
+    (o .segment ∷ c, o .extra ∷ xs, (o .chosen, o .within, l), ap₂ _∷_ (o .quantity) e)

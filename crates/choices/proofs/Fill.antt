@@ -1,4 +1,4 @@
--- The shares of a choice are a point of its box, and add up to what there is to give. Assumes nothing.
+-- The extras of a choice are a point of its box, and add up to what there is to give. Assumes nothing.
 use Prim.Native.Nat.{ℕ, _+_, _*_, _-_, _≤_, _<_}
 use native.Mathlib.Omega.{arith}
 use mathlib.Core.Bool.{Bool, true, false, cond}
@@ -10,25 +10,25 @@ use lib.Dec.{leb}
 use lib.IntN.{natAbs}
 use Rattle.book.specs.declared.Segment.{Segment}
 use Rattle.book.specs.Rules.{priceOn}
-use Rattle.supply.specs.Allocation.{total}
-use Rattle.choices.proofs.Choice.{width, widthAt, cheaper, share, shares}
+use Rattle.supply.specs.Allocation.{bought}
+use Rattle.choices.proofs.Choice.{width, widthAt, cheaper, extra, extras}
 
 -- the price at a segment's start, which is not negative
 unfoldable pub base : Segment → ℕ
 base s = natAbs (priceOn s (s .start .0))
 
 -- what a choice can take over its starts
-abbrev pub room : List Segment → ℕ
-room [] = 0
-room (s ∷ c) = width s + room c
+abbrev pub widths : List Segment → ℕ
+widths [] = 0
+widths (s ∷ c) = width s + widths c
 
--- what the quantities with these shares cost
+-- what the quantities with these extras cost
 abbrev pub cost : List Segment → List ℕ → ℕ
 cost [] xs = 0
 cost (s ∷ c) [] = 0
 cost (s ∷ c) (x ∷ xs) = base s + s .unit .0 * x + cost c xs
 
--- the box of a choice: a share for each bidder, at most its width
+-- the box of a choice: a extra for each bidder, at most its width
 abbrev pub Box : List Segment → List ℕ → Type 0
 Box [] [] = Unit {0}
 Box [] (x ∷ xs) = ⊥
@@ -56,11 +56,11 @@ counts u s = go (leb (s .unit .0) u) refl
     go true e = inl (leb-true (s .unit .0) u e, refl)
     go false e = inr (leb-false (s .unit .0) u e, refl)
 
-cheaper-room : (u : ℕ) (c : List Segment) → cheaper u c ≤ room c
-cheaper-room u [] = omega arith
-cheaper-room u (s ∷ c) = go (counts u s) (cheaper-room u c)
+cheaper-widths : (u : ℕ) (c : List Segment) → cheaper u c ≤ widths c
+cheaper-widths u [] = omega arith
+cheaper-widths u (s ∷ c) = go (counts u s) (cheaper-widths u c)
   where
-    go : Counts u s → cheaper u c ≤ room c → cheaper u (s ∷ c) ≤ room (s ∷ c)
+    go : Counts u s → cheaper u c ≤ widths c → cheaper u (s ∷ c) ≤ widths (s ∷ c)
     go (inl h) l = omega arith
     go (inr h) l = omega arith
 
@@ -75,18 +75,18 @@ cheaper-mono u v (s ∷ c) h = go (counts u s) (counts v s) (cheaper-mono u v c 
     go (inr k) m l = omega arith
 
 -- where there is no more to give than the choice can take, all of it is given
-pub shares-total : (left : ℕ) (c : List Segment) → left ≤ room c → total (shares left c) ≡ left
-unfolding total
-shares-total left [] h = omega arith
-shares-total left (s ∷ c) h =
-    let l : cheaper (s .unit .0) c ≤ room c = cheaper-room (s .unit .0) c in
-    omega (arith, shares-total (left - share left s c) c (omega arith))
+pub extras-bought : (left : ℕ) (c : List Segment) → left ≤ widths c → bought (extras left c) ≡ left
+unfolding bought
+extras-bought left [] h = omega arith
+extras-bought left (s ∷ c) h =
+    let l : cheaper (s .unit .0) c ≤ widths c = cheaper-widths (s .unit .0) c in
+    omega (arith, extras-bought (left - extra left s c) c (omega arith))
 
-pub shares-box : (left : ℕ) (c : List Segment) → Box c (shares left c)
-shares-box left [] = tt
-shares-box left (s ∷ c) = (omega arith, shares-box (left - share left s c) c)
+pub extras-box : (left : ℕ) (c : List Segment) → Box c (extras left c)
+extras-box left [] = tt
+extras-box left (s ∷ c) = (omega arith, extras-box (left - extra left s c) c)
 
-pub box-room : (c : List Segment) (ys : List ℕ) → Box c ys → total ys ≤ room c
-unfolding total
-box-room [] [] b = omega arith
-box-room (s ∷ c) (y ∷ ys) b = omega (arith, box-room c ys (b .1))
+pub box-widths : (c : List Segment) (ys : List ℕ) → Box c ys → bought ys ≤ widths c
+unfolding bought
+box-widths [] [] b = omega arith
+box-widths (s ∷ c) (y ∷ ys) b = omega (arith, box-widths c ys (b .1))

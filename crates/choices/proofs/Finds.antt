@@ -8,9 +8,9 @@ use mathlib.Core.Path.{_≡_, sym, ap, _∙_, subst}
 use lib.IntN.{pos}
 use Rattle.lists.specs.All.{All}
 use Rattle.book.specs.declared.Segment.{Segment}
-use Rattle.supply.specs.Allocation.{total, costOf}
+use Rattle.supply.specs.Allocation.{bought, costOf}
 use Rattle.divisions.specs.Award.{Priced, awardOf}
-use Rattle.divisions.proofs.Best.{Best, NotBetter, best-of, best-iff, best-unique}
+use Rattle.divisions.proofs.IsBest.{IsBest, NotBetter, best-of, best-iff, best-unique}
 use Rattle.divisions.proofs.Award.{PricedDivision, award-best}
 use Rattle.choices.proofs.Choice.{placed}
 use Rattle.choices.proofs.Search.{searched}
@@ -21,7 +21,7 @@ use Rattle.choices.proofs.Chosen.{Chosen, chosen-allocation, chosen-cos
 use Rattle.choices.proofs.Divides.{together, divides, as-good}
 
 -- the best of all complete choices that fit
-pub found-best : (demand : ℕ) (supplies : List (List Segment)) → Best (Leaf demand supplies []) (searched demand supplies)
+pub found-best : (demand : ℕ) (supplies : List (List Segment)) → IsBest (Leaf demand supplies []) (searched demand supplies)
 found-best demand supplies =
     best-iff (Leaf demand supplies []) (λ d. ⊥ ⊎ Leaf demand supplies [] d) (searched demand supplies)
     (λ d. ⊎-elim (λ h. absurd h) (λ l. l))
@@ -35,7 +35,7 @@ module _ (demand : ℕ) (supplies : List (List Segment)) (sound : All SoundSuppl
       ap pos sum ∙ sym (chosen-cost supplies e ys sound a)
 
   found-division : (d : Priced) → Leaf demand supplies [] d → PricedDivision demand supplies d
-  unfolding total
+  unfolding bought
   found-division d l =
       let p = divides demand supplies [] d sound tt l in
       let e = p .later in
@@ -46,10 +46,10 @@ module _ (demand : ℕ) (supplies : List (List Segment)) (sound : All SoundSuppl
       })
 
   division-found : (d : Priced) → PricedDivision demand supplies d → (t : Priced) × Leaf demand supplies [] t × NotBetter d t
-  unfolding total
+  unfolding bought
   division-found d p =
       let (e, ys, a, q) = allocation-chosen supplies (d .quantities) (p .division .allocation) in
-      let sum : total (placed e ys) ≡ demand = ap total (sym q) ∙ p .division .meets in
+      let sum : bought (placed e ys) ≡ demand = ap bought (sym q) ∙ p .division .meets in
       let price : pos (0 + cost e ys) ≡ d .cost = chosen-priced e ys a ∙ ap (costOf supplies) (sym q) ∙ sym (p .cost) in
       let same : together [] [] e ys ≡ d = λ i. record { cost = price i; quantities = sym q i } in
       let (t, l, n) = as-good demand supplies [] [] e ys sound tt tt a (omega arith) in

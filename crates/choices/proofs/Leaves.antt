@@ -7,7 +7,7 @@ use mathlib.Core.Option.{Option}
 use mathlib.Core.Path.{_≡_, refl, sym, _∙_}
 use Rattle.book.specs.declared.Segment.{Segment}
 use Rattle.divisions.specs.Award.{Priced, pick}
-use Rattle.divisions.proofs.Best.{Best, best-iff, best-pick}
+use Rattle.divisions.proofs.IsBest.{IsBest, best-iff, best-pick}
 use Rattle.choices.proofs.Choice.{fits, filled}
 use Rattle.choices.proofs.Search.{each, leaf, search}
 
@@ -18,12 +18,12 @@ Leaf demand (ss ∷ supplies) c d = (s : Segment) × In s ss × Leaf demand supp
 
 -- where f brings in what L has for each segment, going through the segments brings in what L has for any of them
 module _ (L : Segment → Priced → Type 0) (f : Segment → Option Priced → Option Priced)
-    (one : (s : Segment) (P : Priced → Type 0) (o : Option Priced) → Best P o → Best (λ d. P d ⊎ L s d) (f s o))
-    (P : Priced → Type 0) (o : Option Priced) (b : Best P o) where
+    (one : (s : Segment) (P : Priced → Type 0) (o : Option Priced) → IsBest P o → IsBest (λ d. P d ⊎ L s d) (f s o))
+    (P : Priced → Type 0) (o : Option Priced) (b : IsBest P o) where
   abbrev Any : List Segment → Priced → Type 0
   Any ss d = (s : Segment) × In s ss × L s d
 
-  each-best : (ss : List Segment) → Best (λ d. P d ⊎ Any ss d) (each f ss o)
+  each-best : (ss : List Segment) → IsBest (λ d. P d ⊎ Any ss d) (each f ss o)
   unfolding each
   each-best [] = best-iff (λ d. P d ⊎ Any [] d) P o (λ d p. inl p) (λ d. ⊎-elim (λ p. p) (λ t. absurd (List·Memᴰ·not-nil (t .1)))) b
   each-best (s ∷ ss) =
@@ -40,15 +40,15 @@ module _ (L : Segment → Priced → Type 0) (f : Segment → Option Priced → 
       from d (inr (t, here e, l)) = inr (rw e at l)
       from d (inr (t, there m, l)) = inl (inr (t, m, l))
 
-leaf-best : (demand : ℕ) (c : List Segment) (P : Priced → Type 0) (o : Option Priced) → Best P o
-    → Best (λ d. P d ⊎ Leaf demand [] c d) (leaf demand c o)
+leaf-best : (demand : ℕ) (c : List Segment) (P : Priced → Type 0) (o : Option Priced) → IsBest P o
+    → IsBest (λ d. P d ⊎ Leaf demand [] c d) (leaf demand c o)
 unfolding leaf
 leaf-best demand c P o b = go (fits demand c) refl
   where
     new : Priced
     new = filled demand c
 
-    go : (t : Bool) → fits demand c ≡ t → Best (λ d. P d ⊎ ((fits demand c ≡ true) × (d ≡ new))) (cond t (pick o new) o)
+    go : (t : Bool) → fits demand c ≡ t → IsBest (λ d. P d ⊎ ((fits demand c ≡ true) × (d ≡ new))) (cond t (pick o new) o)
     go true e =
         best-iff (λ d. P d ⊎ ((fits demand c ≡ true) × (d ≡ new))) (λ d. P d ⊎ (d ≡ new)) (pick o new)
         (λ d. ⊎-elim (λ p. inl p) (λ h. inr (e, h)))
@@ -59,8 +59,8 @@ leaf-best demand c P o b = go (fits demand c) refl
         (λ d. ⊎-elim (λ p. p) (λ h. absurd (false≢true (sym e ∙ h .0))))
         b
 
-pub search-best : (demand : ℕ) (supplies : List (List Segment)) (c : List Segment) (P : Priced → Type 0) (o : Option Priced) → Best P o
-    → Best (λ d. P d ⊎ Leaf demand supplies c d) (search demand supplies c o)
+pub search-best : (demand : ℕ) (supplies : List (List Segment)) (c : List Segment) (P : Priced → Type 0) (o : Option Priced) → IsBest P o
+    → IsBest (λ d. P d ⊎ Leaf demand supplies c d) (search demand supplies c o)
 unfolding search
 search-best demand [] c P o b = leaf-best demand c P o b
 search-best demand (ss ∷ supplies) c P o b =

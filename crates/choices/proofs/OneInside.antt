@@ -7,8 +7,8 @@ use mathlib.Core.Path.{_≡_, ap, _∙_, subst}
 use Rattle.lists.specs.All.{All}
 use Rattle.book.specs.declared.Segment.{Segment}
 use Rattle.divisions.specs.Award.{Priced, awardOf}
-use Rattle.divisions.specs.Best.{insideCount}
-use Rattle.divisions.proofs.Best.{Best}
+use Rattle.divisions.specs.IsAward.{insideCount}
+use Rattle.divisions.proofs.IsBest.{IsBest}
 use Rattle.choices.proofs.Sound.{SoundSupply}
 use Rattle.choices.proofs.Leaves.{Leaf}
 use Rattle.choices.proofs.Chosen.{chosen-inside}
@@ -18,7 +18,7 @@ use Rattle.choices.proofs.Finds.{found-best, finds}
 pub at-most-one-inside : (demand : ℕ) (supplies : List (List Segment)) → All SoundSupply supplies → (award : Priced)
     → awardOf demand supplies ≡ some award → insideCount supplies (award .quantities) ≤ 1
 at-most-one-inside demand supplies sound award e =
-    let found = subst (Best (Leaf demand supplies [])) (finds demand supplies sound ∙ e) (found-best demand supplies) .0 in
+    let found = subst (IsBest (Leaf demand supplies [])) (finds demand supplies sound ∙ e) (found-best demand supplies) .0 in
     let p = divides demand supplies [] award sound tt found in
     let same = ap (λ (d : Priced). insideCount supplies (d .quantities)) (p .is) in
     omega (arith, same, chosen-inside supplies (p .later) (p .laterShares) sound (p .chosen), p .few)

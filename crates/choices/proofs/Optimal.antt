@@ -7,7 +7,7 @@ use mathlib.Core.List.{List, [], _∷_}
 use mathlib.Core.Logic.{_⊎_, inl, inr, ⊎-elim}
 use mathlib.Core.Path.{_≡_, refl, ap, ap₂}
 use Rattle.book.specs.declared.Segment.{Segment}
-use Rattle.supply.specs.Allocation.{total}
+use Rattle.supply.specs.Allocation.{bought}
 use Rattle.divisions.proofs.Signed.{order}
 use Rattle.choices.proofs.Choice.{width}
 use Rattle.choices.proofs.Fill.{cost, Box, Less, Wins}
@@ -65,8 +65,8 @@ exchange u l x y f g = ⊎-elim (λ h. up x y u l h (g h)) (⊎-elim (λ h. rw h
     up x y u l h k = let p : y ≡ x + (y - x) = omega arith in rw p (omega (arith, mul-le-mul-right (y - x) k))
 
 no-cheaper : (l : ℕ) (c : List Segment) (xs ys : List ℕ) → Under l c xs → Open l c xs → Box c xs → Box c ys
-    → cost c xs + l * total ys ≤ cost c ys + l * total xs
-unfolding total
+    → cost c xs + l * bought ys ≤ cost c ys + l * bought xs
+unfolding bought
 no-cheaper l [] [] [] a b p q = omega arith
 no-cheaper l (s ∷ c) (x ∷ xs) (y ∷ ys) a b p q =
     omega (arith, exchange (s .unit .0) l x y (λ h. a .0 (omega arith)) (λ h. b .0 (omega arith)), no-cheaper l c xs ys (a .1) (b .1) (p .1) (q .1))
@@ -83,8 +83,8 @@ exact u l x y h k e = ⊎-elim (λ m. absurd (strict m)) (⊎-elim (λ m. m) (λ
         omega (arith, mul-le-mul-right (x - y) m)
 
 tied : (l : ℕ) (c : List Segment) (xs ys : List ℕ) → Cert c xs → Under l c xs → Open l c xs → Box c xs → Box c ys
-    → cost c xs + l * total ys ≡ cost c ys + l * total xs → total ys ≤ total xs → (ys ≡ xs) ⊎ Less ys xs
-unfolding total
+    → cost c xs + l * bought ys ≡ cost c ys + l * bought xs → bought ys ≤ bought xs → (ys ≡ xs) ⊎ Less ys xs
+unfolding bought
 tied l [] [] [] z a b p q e t = inl refl
 tied l (s ∷ c) (x ∷ xs) (y ∷ ys) z a b p q e t = go (order y x) (λ k. tied l c xs ys (z .2) (a .1) (b .1) (p .1) (q .1) (omega (arith, head, rest)) k)
   where
@@ -94,25 +94,25 @@ tied l (s ∷ c) (x ∷ xs) (y ∷ ys) z a b p q e t = go (order y x) (λ k. tie
     head : u * x + l * y ≤ u * y + l * x
     head = exchange u l x y (λ h. a .0 (omega arith)) (λ h. b .0 (omega arith))
 
-    rest : cost c xs + l * total ys ≤ cost c ys + l * total xs
+    rest : cost c xs + l * bought ys ≤ cost c ys + l * bought xs
     rest = no-cheaper l c xs ys (a .1) (b .1) (p .1) (q .1)
 
     -- what could still be taken of the rest costs more, so the rest gives no less
-    full : y < x → total ys ≤ total xs
+    full : y < x → bought ys ≤ bought xs
     full m =
         let v : u ≡ l = exact u l x y m (a .0 (omega arith)) (omega (arith, head, rest)) in
         let o : Open (suc u) c xs = z .1 (omega arith) in
         omega (arith, head, rest, no-cheaper (suc l) c xs ys (under-up l (suc l) c xs (omega arith) (a .1)) (rw v at o) (p .1) (q .1))
 
-    go : (y < x) ⊎ ((y ≡ x) ⊎ (x < y)) → (total ys ≤ total xs → (ys ≡ xs) ⊎ Less ys xs) → (y ∷ ys ≡ x ∷ xs) ⊎ Less (y ∷ ys) (x ∷ xs)
+    go : (y < x) ⊎ ((y ≡ x) ⊎ (x < y)) → (bought ys ≤ bought xs → (ys ≡ xs) ⊎ Less ys xs) → (y ∷ ys ≡ x ∷ xs) ⊎ Less (y ∷ ys) (x ∷ xs)
     go (inl m) later = ⊎-elim (λ k. inr (inr (k, m))) (λ k. inr (inl k)) (later (full m))
     go (inr (inl m)) later = ⊎-elim (λ k. inl (ap₂ _∷_ m k)) (λ k. inr (inl k)) (later (omega arith))
-    go (inr (inr m)) later = ⊎-elim (λ k. absurd (omega (arith, ap total k))) (λ k. inr (inl k)) (later (omega arith))
+    go (inr (inr m)) later = ⊎-elim (λ k. absurd (omega (arith, ap bought k))) (λ k. inr (inl k)) (later (omega arith))
 
-pub cert-wins : (c : List Segment) (xs ys : List ℕ) → Cert c xs → Box c xs → Box c ys → total ys ≡ total xs → Wins c xs ys
+pub cert-wins : (c : List Segment) (xs ys : List ℕ) → Cert c xs → Box c xs → Box c ys → bought ys ≡ bought xs → Wins c xs ys
 cert-wins c xs ys z p q t =
     let (l, a, b) = level c xs z in
-    let e : l * total ys ≡ l * total xs = ap (λ (n : ℕ). l * n) t in
+    let e : l * bought ys ≡ l * bought xs = ap (λ (n : ℕ). l * n) t in
     ⊎-elim (λ k. inl k)
     (⊎-elim (λ k. inr (k, tied l c xs ys z a b p q (omega arith) (omega arith))) (λ k. absurd (omega (arith, no-cheaper l c xs ys a b p q))))
     (order (cost c xs) (cost c ys))

@@ -1,4 +1,4 @@
--- The quantities of a choice with shares of its box: what they add up to, what they cost, and which give more. Assumes nothing.
+-- The quantities of a choice with extras of its box: what they add up to, what they cost, and which give more. Assumes nothing.
 use Prim.Native.Nat.{ℕ, _+_, _*_, _≤_}
 use native.Mathlib.Omega.{arith}
 use mathlib.Core.Bool.{true, false≢true}
@@ -14,12 +14,12 @@ use Rattle.lists.proofs.Tests.{both-left, both-right}
 use Rattle.money.specs.Price.{priceOf}
 use Rattle.book.specs.declared.Segment.{Segment}
 use Rattle.book.specs.Rules.{priceOn}
-use Rattle.supply.specs.Allocation.{total}
+use Rattle.supply.specs.Allocation.{bought}
 use Rattle.divisions.specs.Award.{givesMore}
 use Rattle.divisions.proofs.Order.{more-here, more-later}
 use Rattle.choices.proofs.Choice.{starts, ends, fits, width, placed, costWith}
 use Rattle.choices.proofs.Sound.{SoundSegment}
-use Rattle.choices.proofs.Fill.{base, room, cost, Box, Less}
+use Rattle.choices.proofs.Fill.{base, widths, cost, Box, Less}
 
 -- Prices, which are not negative.
 
@@ -47,15 +47,15 @@ cost-with (s ∷ c) (x ∷ xs) sound = ap₂ _+ℤ_ (price-on s x (sound .0)) (c
 
 -- What they add up to, and which choices fit.
 
-pub placed-total : (c : List Segment) (xs : List ℕ) → Box c xs → total (placed c xs) ≡ starts c + total xs
-unfolding total
-placed-total [] [] b = omega arith
-placed-total (s ∷ c) (x ∷ xs) b = omega (arith, placed-total c xs (b .1))
+pub placed-bought : (c : List Segment) (xs : List ℕ) → Box c xs → bought (placed c xs) ≡ starts c + bought xs
+unfolding bought
+placed-bought [] [] b = omega arith
+placed-bought (s ∷ c) (x ∷ xs) b = omega (arith, placed-bought c xs (b .1))
 
-pub ends-room : (c : List Segment) → All SoundSegment c → ends c ≡ starts c + room c
+pub ends-widths : (c : List Segment) → All SoundSegment c → ends c ≡ starts c + widths c
 unfolding width
-ends-room [] sound = refl
-ends-room (s ∷ c) sound = omega (arith, sound .0 .order, ends-room c (sound .1))
+ends-widths [] sound = refl
+ends-widths (s ∷ c) sound = omega (arith, sound .0 .order, ends-widths c (sound .1))
 
 module _ (demand : ℕ) (c : List Segment) where
   pub fits-low : fits demand c ≡ true → starts c ≤ demand

@@ -7,13 +7,13 @@ use lib.ListN.{length, take}
 use Rattle.refusal.specs.declared.Verdict.the-variants.{Accepted}
 use Rattle.output.specs.declared.TextWritten.{TextWritten}
 use Rattle.output.proofs.Answers.{Answered, all-written}
-use Rattle.tender.specs.FromText.{printedText}
-use Rattle.demand3.proofs.Fits.{printed-fits}
+use Rattle.tender.specs.FromText.{clearPrints}
+use Rattle.endtoend.proofs.Fits.{prints-fit}
 
 pub all-printed : (t out : List ℕ) → length out ≡ 600 → (answer : TextWritten) (exit : List ℕ) → length exit ≡ length out
-    → Answered Accepted (printedText t) out answer exit → (take (answer .bytes) exit ≡ printedText t) × (answer .bytes ≤ length exit)
+    → Answered Accepted (clearPrints t) out answer exit → (take (answer .bytes) exit ≡ clearPrints t) × (answer .bytes ≤ length exit)
 all-printed t out held answer exit same (is, left) =
-    let fits : length (printedText t) ≤ length out = omega (arith, printed-fits t) in
-    let (size, whole) = all-written Accepted (printedText t) out refl fits in
-    let bytes : answer .bytes ≡ length (printedText t) = ap (λ (w : TextWritten). w .bytes) is ∙ size in
+    let fits : length (clearPrints t) ≤ length out = omega (arith, prints-fit t) in
+    let (size, whole) = all-written Accepted (clearPrints t) out refl fits in
+    let bytes : answer .bytes ≡ length (clearPrints t) = ap (λ (w : TextWritten). w .bytes) is ∙ size in
     (ap₂ take bytes left ∙ whole, omega arith)

@@ -2,7 +2,7 @@
 ghost use mathlib.Core.Path.{_≡_};
 ghost use Prim.Native.Nat.{_≤_};
 ghost use lib.ListN.{length, take};
-ghost use Rattle.tender.specs.FromText.{printedText};
+ghost use Rattle.tender.specs.FromText.{clearPrints};
 use input::Input;
 use libc::STDOUT_FILENO;
 
@@ -26,7 +26,7 @@ fn print(text: &[u8]) {
 // Puts what is to be printed for a text at the beginning of the output, and answers how many bytes it has: 600 bytes hold it.
 fn answer(text: &[u8], out: &mut [u8]) -> usize
     requires { ⌜ length (now out) ≡ 600 ⌝ }
-    ensures { λ r. ⌜ take r (now (out .exit)) ≡ printedText (now (text .entry)) ⌝ }
+    ensures { λ r. ⌜ take r (now (out .exit)) ≡ clearPrints (now (text .entry)) ⌝ }
     ensures { λ r. ⌜ r ≤ length (now (out .exit)) ⌝ }
 {
     let written = tender::print(text, out);

@@ -14,7 +14,7 @@ use Rattle.book.specs.Entries.{BookEntries, bookEntries}
 use Rattle.book.specs.Rules.{bookVerdict}
 use Rattle.supply.specs.Supply.{suppliesOf}
 use Rattle.divisions.specs.Award.{Priced, awardOf, awardOfBook}
-use Rattle.comparison.specs.declared.Best.{Best}
+use Rattle.comparison.specs.declared.MaybeDivision.{MaybeDivision}
 use Rattle.comparison.specs.Records.{blanksIn, divisionIn, found}
 use Rattle.award.specs.declared.Row.{Row}
 use Rattle.award.specs.Award.{noRow}
@@ -45,14 +45,14 @@ module _ (b : BookEntries) where
   division award e f = rules-passed e ∙ ap (clearedBook b) f
 
 -- what clearing gives with these rows, where a division was found
-abbrev awarded : Book → Best → List Row → Clearing
+abbrev awarded : Book → MaybeDivision → List Row → Clearing
 awarded book best rows = record {
   verdict = Accepted;
-  award = record { demand = book .demand; total = best .total; count = book .count; rows = rows };
+  award = record { demand = book .demand; total = best .cost; count = book .count; rows = rows };
 }
 
 -- From the search's answer for the record of an accepted book: a division, or that there is none.
-module _ (book : Book) (best : Best) (searched : found (book .count) best ≡ awardOf (book .demand .0) (suppliesOf (bookEntries book .bids)))
+module _ (book : Book) (best : MaybeDivision) (searched : found (book .count) best ≡ awardOf (book .demand .0) (suppliesOf (bookEntries book .bids)))
     (accepted : bookVerdict (bookEntries book) ≡ Accepted) where
   pub clear-none : best .found ≡ false → refusedClearing (Refused NotCovered 0) ≡ clearOf (bookEntries book)
   clear-none h = sym (no-division (bookEntries book) accepted (award-none book best searched h))

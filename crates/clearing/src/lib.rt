@@ -40,7 +40,7 @@ fn rows(book: Book, quantities: [Blanks; 8]) -> [Row; 8]
     while i < book.count {
         let bid = book.bids[i];
         let quantity = quantities[i];
-        let total = without::total(book, i);
+        let total = without::total_without(book, i);
         let row = award::row_of(bid, quantity, total);
         rows[i] = row;
         i += 1;
@@ -63,7 +63,7 @@ pub fn clear(book: Book) -> Clearing
     }
     let quantities = best.quantities;
     let demand = book.demand;
-    let total = best.total;
+    let total = best.cost;
     let count = book.count;
     let rows = rows(book, quantities);
     let award = Award {

@@ -13,7 +13,7 @@ use Rattle.lists.proofs.Slices.{slice-next, slice-done}
 use Rattle.money.specs.declared.Blanks.{Blanks}
 use Rattle.divisions.specs.Award.{Priced, givesMore, better, pick}
 use Rattle.divisions.proofs.Signed.{less-not, at-most-either}
-use Rattle.comparison.specs.declared.Best.{Best}
+use Rattle.comparison.specs.declared.MaybeDivision.{MaybeDivision}
 use Rattle.comparison.specs.Records.{blanksIn, divisionIn, found}
 
 abbrev pub noBlanks : Blanks
@@ -70,7 +70,7 @@ module _ (a b : Priced) where
   as-cheap e f = by-cost ∙ rw (e, f)
 
 -- The better of the best so far and a new division.
-module _ (n : ℕ) (best new : Best) (is-found : new .found ≡ true) where
+module _ (n : ℕ) (best new : MaybeDivision) (is-found : new .found ≡ true) where
   pub pick-first : best .found ≡ false → found n new ≡ pick (found n best) (divisionIn n new)
   unfolding pick
   pick-first e = rw (e, is-found)

@@ -1,4 +1,4 @@
--- For the contracts of this crate, of `filling`, of `search` and of `clearing`: what the record of a division holds.
+-- For the contracts of this crate, of `meritorder`, of `search` and of `clearing`: what the record of a division holds.
 use Prim.Native.Nat.{ℕ}
 use mathlib.Core.Bool.{cond}
 use mathlib.Core.List.{List, map}
@@ -6,16 +6,16 @@ use mathlib.Core.Option.{Option, some, none}
 use lib.ListN.{take}
 use Rattle.money.specs.declared.Blanks.{Blanks}
 use Rattle.divisions.specs.Award.{Priced}
-use Rattle.comparison.specs.declared.Best.{Best}
+use Rattle.comparison.specs.declared.MaybeDivision.{MaybeDivision}
 
 -- quantities as numbers
 abbrev pub blanksIn : List Blanks → List ℕ
 blanksIn quantities = map (λ (b : Blanks). b .0) quantities
 
 -- the division of n bidders that a record holds
-abbrev pub divisionIn : ℕ → Best → Priced
-divisionIn n b = record { cost = b .total .0; quantities = take n (blanksIn (b .quantities)) }
+abbrev pub divisionIn : ℕ → MaybeDivision → Priced
+divisionIn n b = record { cost = b .cost .0; quantities = take n (blanksIn (b .quantities)) }
 
 -- if it holds one
-abbrev pub found : ℕ → Best → Option Priced
+abbrev pub found : ℕ → MaybeDivision → Option Priced
 found n b = cond (b .found) (some (divisionIn n b)) none

@@ -10,9 +10,9 @@ use money::Blanks;
 use money::Cents;
 
 // A division, if one was found: its cost, and a quantity for each bidder in book order.
-pub struct Best {
+pub struct MaybeDivision {
     pub found: bool,
-    pub total: Cents,
+    pub cost: Cents,
     pub quantities: [Blanks; 8],
 }
 
@@ -38,12 +38,12 @@ fn gives_more(a: [Blanks; 8], b: [Blanks; 8], n: usize) -> bool
 
 // Whether a costs less than b; or it costs no more, and gives more to the first bidder at whom the
 // two differ.
-fn better(a: Best, b: Best, n: usize) -> bool
+fn better(a: MaybeDivision, b: MaybeDivision, n: usize) -> bool
     requires { ⌜ n ≤ 8 ⌝ }
     ensures { λ r. ⌜ r ≡ better (divisionIn n a) (divisionIn n b) ⌝ }
 {
-    let cost = a.total;
-    let other = b.total;
+    let cost = a.cost;
+    let other = b.cost;
     if !money::at_most(cost, other) {
         return false;
     }
@@ -56,7 +56,7 @@ fn better(a: Best, b: Best, n: usize) -> bool
 }
 
 // The better of the division kept so far, if there is one, and a new one. It is pub for the search.
-pub fn pick(kept: Best, new: Best, n: usize) -> Best
+pub fn pick(kept: MaybeDivision, new: MaybeDivision, n: usize) -> MaybeDivision
     requires { ⌜ n ≤ 8 ⌝ }
     requires { ⌜ new .found ≡ true ⌝ }
     ensures { λ r. ⌜ found n r ≡ pick (found n kept) (divisionIn n new) ⌝ }

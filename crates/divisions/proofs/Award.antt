@@ -12,10 +12,10 @@ use Rattle.supply.specs.Allocation.{costOf}
 use Rattle.divisions.specs.Division.{Allocation, Division}
 use Rattle.divisions.specs.Listing.{divisions}
 use Rattle.divisions.specs.Award.{Priced, priced, better, awardOf}
-use Rattle.divisions.specs.Best.{Worse, IsAward}
+use Rattle.divisions.specs.IsAward.{Worse, IsAward}
 use Rattle.divisions.proofs.Signed.{less, less-test}
 use Rattle.divisions.proofs.Order.{better-cases, better-cost, better-tie, gives-less, gives-more}
-use Rattle.divisions.proofs.Best.{Best, best-iff, best-unique, best-listed}
+use Rattle.divisions.proofs.IsBest.{IsBest, best-iff, best-unique, best-listed}
 use Rattle.divisions.proofs.Listed.{listed-iff}
 
 -- a division with its cost
@@ -24,7 +24,7 @@ pub record PricedDivision (demand : ℕ) (supplies : List (List Segment)) (d : P
   pub cost : d .cost ≡ costOf supplies (d .quantities)
 
 module _ (demand : ℕ) (supplies : List (List Segment)) where
-  pub award-best : Best (PricedDivision demand supplies) (awardOf demand supplies)
+  pub award-best : IsBest (PricedDivision demand supplies) (awardOf demand supplies)
   unfolding awardOf
   award-best =
       best-iff (PricedDivision demand supplies) (λ d. In d (map (priced supplies) (divisions demand supplies))) (awardOf demand supplies) to from
@@ -43,7 +43,7 @@ module _ (demand : ℕ) (supplies : List (List Segment)) where
   -- no award exactly when there is no division
   pub no-award-iff : (awardOf demand supplies ≡ none) ↔ ((rs : List ℕ) → Division demand supplies rs → ⊥)
   no-award-iff = (
-    λ e rs d. subst (Best (PricedDivision demand supplies)) e award-best (priced supplies rs) (record { division = d; cost = refl }),
+    λ e rs d. subst (IsBest (PricedDivision demand supplies)) e award-best (priced supplies rs) (record { division = d; cost = refl }),
     λ f. best-unique (PricedDivision demand supplies) (awardOf demand supplies) none award-best (λ d p. f (d .quantities) (p .division)),
   )
 
@@ -71,7 +71,7 @@ module _ (demand : ℕ) (supplies : List (List Segment)) (award : Priced) where
   -- the two differ
   pub award-is : awardOf demand supplies ≡ some award → IsAward demand supplies award
   award-is e =
-      let (p, rest) = subst (Best (PricedDivision demand supplies)) e (award-best demand supplies) in
+      let (p, rest) = subst (IsBest (PricedDivision demand supplies)) e (award-best demand supplies) in
       record {
         division = p .division;
         cost = p .cost;

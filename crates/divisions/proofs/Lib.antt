@@ -1,6 +1,6 @@
 pub mod Signed
 pub mod Order
-pub mod Best
+pub mod IsBest
 pub mod Listed
 pub mod Award
 pub mod Without

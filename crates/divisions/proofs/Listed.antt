@@ -10,7 +10,7 @@ use Rattle.lists.specs.Those.{those}
 use Rattle.lists.proofs.Members.{in-map, map-in, in-joined, joined-in, in-those, those-in}
 use Rattle.book.specs.declared.Segment.{Segment}
 use Rattle.supply.specs.Supply.{offers}
-use Rattle.supply.specs.Allocation.{total}
+use Rattle.supply.specs.Allocation.{bought}
 use Rattle.divisions.specs.Division.{Allocation, Division}
 use Rattle.divisions.specs.Listing.{downFrom, allocations, divisions}
 use Rattle.divisions.proofs.Signed.{order}
@@ -25,8 +25,8 @@ abbrev AtMost : ℕ → List ℕ → Type 0
 AtMost most [] = Unit {0}
 AtMost most (r ∷ rs) = (r ≤ most) × AtMost most rs
 
-at-most : (most : ℕ) (rs : List ℕ) → total rs ≤ most → AtMost most rs
-unfolding total
+at-most : (most : ℕ) (rs : List ℕ) → bought rs ≤ most → AtMost most rs
+unfolding bought
 at-most most [] h = tt
 at-most most (r ∷ rs) h = (omega arith, at-most most rs (omega arith))
 
@@ -49,9 +49,9 @@ in-allocation most (ss ∷ supplies) rs h =
 pub listed-iff : (demand : ℕ) (supplies : List (List Segment)) (rs : List ℕ) → In rs (divisions demand supplies) ↔ Division demand supplies rs
 unfolding divisions
 listed-iff demand supplies rs = (
-  λ h. let (m, e) = those-in (λ (qs : List ℕ). eqb (total qs) demand) (allocations demand supplies) rs h in
-      record { allocation = in-allocation demand supplies rs m; meets = eqb-true (total rs) demand e },
-  λ d. in-those (λ (qs : List ℕ). eqb (total qs) demand) (allocations demand supplies) rs
+  λ h. let (m, e) = those-in (λ (qs : List ℕ). eqb (bought qs) demand) (allocations demand supplies) rs h in
+      record { allocation = in-allocation demand supplies rs m; meets = eqb-true (bought rs) demand e },
+  λ d. in-those (λ (qs : List ℕ). eqb (bought qs) demand) (allocations demand supplies) rs
       (allocation-in demand supplies rs (d .allocation) (at-most demand rs (omega (arith, d .meets))))
-      (eq-eqb (total rs) demand (d .meets)),
+      (eq-eqb (bought rs) demand (d .meets)),
 )

@@ -1,4 +1,4 @@
--- The order of divisions: `better` is strict and total. Assumes nothing.
+-- The order of divisions: `better` is strict and bought. Assumes nothing.
 use Prim.Native.Nat.{ℕ, zero, suc, _<_}
 use native.Mathlib.Omega.{arith}
 use mathlib.Core.Bool.{true, false, _&&_, false≢true}
@@ -11,7 +11,7 @@ use lib.ListN.{length, take, getD}
 use lib.Signed.{ltZ, leZ}
 use Rattle.lists.proofs.Tests.{both-left, both-right, both-hold, one-holds, left-holds, right-holds}
 use Rattle.divisions.specs.Award.{Priced, givesMore, better}
-use Rattle.divisions.specs.Best.{GivesLess}
+use Rattle.divisions.specs.IsAward.{GivesLess}
 use Rattle.divisions.proofs.Signed.{order, less-trans, less-irrefl, less-or, at-most-same, at-most-cases}
 
 -- ---- more to the first bidder at whom two differ

@@ -12,10 +12,10 @@ use Rattle.lists.specs.All.{All}
 use Rattle.lists.proofs.Removed.{removed}
 use Rattle.book.specs.declared.Segment.{Segment}
 use Rattle.supply.specs.Supply.{offers, priceAt}
-use Rattle.supply.specs.Allocation.{total, costOf}
+use Rattle.supply.specs.Allocation.{bought, costOf}
 use Rattle.divisions.specs.Division.{Allocation}
 use Rattle.divisions.specs.Award.{Priced, givesMore, better, awardOf}
-use Rattle.divisions.proofs.Best.{Best, best-unique}
+use Rattle.divisions.proofs.IsBest.{IsBest, best-unique}
 use Rattle.divisions.proofs.Award.{PricedDivision, award-best}
 
 -- a supply function on which nothing is offered, for nothing
@@ -39,9 +39,9 @@ with-allocation (suc i) [] rs n h a = absurd (not-suc-le-zero h)
 with-allocation (suc i) (ss ∷ supplies) [] n h a = absurd a
 with-allocation (suc i) (ss ∷ supplies) (r ∷ rs) n h a = (a .0, with-allocation i supplies rs (n .1) (le-of-suc-le-suc h) (a .1))
 
-with-total : (i : ℕ) (rs : List ℕ) → total (withNothing i rs) ≡ total rs
-unfolding total
-with-total zero rs = zero-add (total rs)
+with-total : (i : ℕ) (rs : List ℕ) → bought (withNothing i rs) ≡ bought rs
+unfolding bought
+with-total zero rs = zero-add (bought rs)
 with-total (suc i) [] = refl
 with-total (suc i) (r ∷ rs) = ap (λ (n : ℕ). r + n) (with-total i rs)
 
@@ -105,8 +105,8 @@ module _ (demand : ℕ) (supplies : List (List Segment)) (nothing : All SellsNot
       }
 
   module _ (award : Priced) (is-award : awardOf demand supplies ≡ some award) (sells-nothing : getD (award .quantities) i 0 ≡ 0) where
-    best : Best (PricedDivision demand supplies) (some award)
-    best = subst (Best (PricedDivision demand supplies)) is-award (award-best demand supplies)
+    best : IsBest (PricedDivision demand supplies) (some award)
+    best = subst (IsBest (PricedDivision demand supplies)) is-award (award-best demand supplies)
 
     abbrev left : Priced
     left = record { cost = award .cost; quantities = removed i (award .quantities) }
@@ -123,7 +123,7 @@ module _ (demand : ℕ) (supplies : List (List Segment)) (nothing : All SellsNot
         record {
           division = record {
             allocation = left-allocation;
-            meets = sym (with-total i (left .quantities)) ∙ ap total sold ∙ best .0 .division .meets;
+            meets = sym (with-total i (left .quantities)) ∙ ap bought sold ∙ best .0 .division .meets;
           };
           cost = best .0 .cost ∙ ap (costOf supplies) (sym sold) ∙ with-cost i supplies (left .quantities) nothing bidder left-allocation;
         }

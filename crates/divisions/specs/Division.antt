@@ -5,7 +5,7 @@ use mathlib.Core.List.{List, [], _∷_}
 use mathlib.Core.Path.{_≡_}
 use Rattle.book.specs.declared.Segment.{Segment}
 use Rattle.supply.specs.Supply.{offers}
-use Rattle.supply.specs.Allocation.{total}
+use Rattle.supply.specs.Allocation.{bought}
 
 -- an allocation gives each bidder 0 or a quantity on one of its segments (0 is on segment 0)
 abbrev pub Allocation : List (List Segment) → List ℕ → Type 0
@@ -17,4 +17,4 @@ Allocation (ss ∷ supplies) (r ∷ rs) = (offers ss r ≡ true) × Allocation s
 -- a division is an allocation whose quantities add up to the demand
 pub record Division (demand : ℕ) (supplies : List (List Segment)) (rs : List ℕ) : Type 0 where
   pub allocation : Allocation supplies rs
-  pub meets : total rs ≡ demand
+  pub meets : bought rs ≡ demand

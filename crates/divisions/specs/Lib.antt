@@ -1,4 +1,4 @@
 pub mod Division
 pub mod Listing
 pub mod Award
-pub mod Best
+pub mod IsAward

@@ -6,7 +6,7 @@ use Rattle.lists.specs.Joined.{joined}
 use Rattle.lists.specs.Those.{those}
 use Rattle.book.specs.declared.Segment.{Segment}
 use Rattle.supply.specs.Supply.{offers}
-use Rattle.supply.specs.Allocation.{total}
+use Rattle.supply.specs.Allocation.{bought}
 
 -- the numbers from n down to 0
 unfoldable pub downFrom : ℕ → List ℕ
@@ -20,4 +20,4 @@ allocations most (ss ∷ supplies) = joined (λ r. map (λ (rs : List ℕ). r �
 
 -- those whose quantities add up to the demand
 unfoldable pub divisions : ℕ → List (List Segment) → List (List ℕ)
-divisions demand supplies = those (λ rs. eqb (total rs) demand) (allocations demand supplies)
+divisions demand supplies = those (λ rs. eqb (bought rs) demand) (allocations demand supplies)

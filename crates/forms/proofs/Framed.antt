@@ -5,7 +5,7 @@ use mathlib.Core.List.{List, _++_, append-assoc}
 use mathlib.Core.Path.{refl}
 use Rattle.forms.proofs.Form.{Form, Next, any}
 use Rattle.forms.proofs.Word.{word}
-use Rattle.forms.proofs.Pair.{pair, Follows}
+use Rattle.forms.proofs.Sequence.{sequence, Follows}
 use Rattle.forms.proofs.Via.{via, Same}
 use Rattle.forms.proofs.Place.{Reads, reads-both, reads-via}
 
@@ -17,11 +17,11 @@ module _ {A : Type 0} (start : List ℕ) (p : Form A) (close : List ℕ) (closes
   pub closed : Follows p (word close)
   closed b r v h = closes r
 
-  pub started : Follows (word start) (pair p (word close) closed)
+  pub started : Follows (word start) (sequence p (word close) closed)
   started b r v h = any (p .text (b .0) ++ close ++ r)
 
   abbrev parts : Form (Unit {0} × (A × Unit {0}))
-  parts = pair (word start) (pair p (word close) closed) started
+  parts = sequence (word start) (sequence p (word close) closed) started
 
   abbrev inner : Unit {0} × (A × Unit {0}) → A
   inner x = x .1 .0
@@ -51,5 +51,5 @@ module _ {A : Type 0} (start : List ℕ) (p : Form A) (close : List ℕ) (closes
       → Reads framed t i before a e stop
   reads-framed t i before e₀ mid₀ a e₁ mid₁ e stop x y z =
       reads-via parts inner outer (p .Valid) framedText same-framed t i before (tt, (a, tt)) e stop
-      (reads-both (word start) (pair p (word close) closed) started t i before tt e₀ mid₀ (a, tt) e stop x
+      (reads-both (word start) (sequence p (word close) closed) started t i before tt e₀ mid₀ (a, tt) e stop x
       (reads-both p (word close) closed t e₀ mid₀ a e₁ mid₁ tt e stop y z))

@@ -4,7 +4,7 @@ pub mod Word
 pub mod Digits
 pub mod DigitTests
 pub mod Number
-pub mod Pair
+pub mod Sequence
 pub mod Either
 pub mod Via
 pub mod Many

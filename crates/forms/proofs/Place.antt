@@ -9,7 +9,7 @@ use lib.ListN.{length, drop, length-drop, length-append}
 use lib.Seq.{drop-drop}
 use Rattle.forms.proofs.Parse.{parsed, stopped, after}
 use Rattle.forms.proofs.Form.{Form, startsWith}
-use Rattle.forms.proofs.Pair.{pair, then-parse, Follows}
+use Rattle.forms.proofs.Sequence.{sequence, then-parse, Follows}
 use Rattle.forms.proofs.Either.{either, either-parse, Apart}
 use Rattle.forms.proofs.Via.{via, Same}
 
@@ -81,14 +81,14 @@ module _ {A : Type 0} (p : Form A) (t : List ℕ) where
 
 -- one after the other
 module _ {A B : Type 0} (p : Form A) (q : Form B) (follows : Follows p q) (t : List ℕ) where
-  found-both : {i e g : ℕ} {a : A} {b : B} → Found p t i a e → Found q t e b g → Found (pair p q follows) t i (a, b) g
+  found-both : {i e g : ℕ} {a : A} {b : B} → Found p t i a e → Found q t e b g → Found (sequence p q follows) t i (a, b) g
   found-both {a = a} f h = record {
     finds = ap (then-parse p q) (f .finds) ∙ ap (after (length (p .text a)) (λ b. (a, b))) (h .finds);
     from = omega (arith, f .from, h .from);
     to = h .to;
   }
 
-  stops-second : {i e g : ℕ} {a : A} → Found p t i a e → Stops q t e g → Stops (pair p q follows) t i g
+  stops-second : {i e g : ℕ} {a : A} → Found p t i a e → Stops q t e g → Stops (sequence p q follows) t i g
   stops-second {i} {e} {g} {a} f s =
       let z : length (p .text a) + (g - e) ≡ g - i = omega (arith, wide p t f, s .from) in
       record {
@@ -97,12 +97,12 @@ module _ {A B : Type 0} (p : Form A) (q : Form B) (follows : Follows p q) (t : L
         to = s .to;
       }
 
-  stops-first : {i e : ℕ} → Stops p t i e → Stops (pair p q follows) t i e
+  stops-first : {i e : ℕ} → Stops p t i e → Stops (sequence p q follows) t i e
   stops-first s = record { finds = ap (then-parse p q) (s .finds); from = s .from; to = s .to }
 
   pub reads-both : (i : ℕ) (before : Bool) (a : A) (e : ℕ) (mid : Bool) (b : B) (g : ℕ) (stop : Bool) → Reads p t i before a e mid
       → Reads q t e mid b g stop
-      → Reads (pair p q follows) t i before (a, b) g stop
+      → Reads (sequence p q follows) t i before (a, b) g stop
   reads-both i true a e mid b g stop x y = after-stop mid (x .1) y
     where
       after-stop : (m : Bool) → m ≡ true → Reads q t e m b g stop → (g ≡ i) × (stop ≡ true)
@@ -111,8 +111,8 @@ module _ {A B : Type 0} (p : Form A) (q : Form B) (follows : Follows p q) (t : L
   reads-both i false a e false b g false x y = found-both x y
   reads-both i false a e false b g true x y = stops-second x y
   reads-both i false a e true b g stop x y =
-      subst (λ (w : Bool). Gives (pair p q follows) t i (a, b) g w) (sym (y .1))
-      (subst (λ (k : ℕ). Stops (pair p q follows) t i k) (sym (y .0)) (stops-first x))
+      subst (λ (w : Bool). Gives (sequence p q follows) t i (a, b) g w) (sym (y .1))
+      (subst (λ (k : ℕ). Stops (sequence p q follows) t i k) (sym (y .0)) (stops-first x))
 
 -- said of another value
 module _ {A B : Type 0} (p : Form A) (f : A → B) (g : B → A) (Valid : B → Type 0) (text : B → List ℕ) (same : Same p f g Valid text) (t : List ℕ) where

@@ -7,7 +7,7 @@ use lib.ListN.{length}
 use Rattle.lists.specs.All.{All}
 use Rattle.lists.specs.Joined.{joined}
 use Rattle.forms.proofs.Form.{Form}
-use Rattle.forms.proofs.Pair.{pair, Follows}
+use Rattle.forms.proofs.Sequence.{sequence, Follows}
 use Rattle.forms.proofs.Via.{via, Same}
 use Rattle.forms.proofs.Many.{FirstByte, many, first-may}
 
@@ -19,7 +19,7 @@ module _ {A : Type 0} (x : ℕ) (p : Form A) (heads : FirstByte x p) (again : p 
   item-follows xs r v h = first-may x p heads xs r v again h
 
   abbrev pub first-and-more : Form (A × List A)
-  first-and-more = pair p (many x p heads again) item-follows
+  first-and-more = sequence p (many x p heads again) item-follows
 
   abbrev pub listed : A × List A → List A
   listed y = y .0 ∷ y .1

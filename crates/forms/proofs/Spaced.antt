@@ -14,7 +14,7 @@ use Rattle.forms.proofs.Form.{Form, any}
 use Rattle.forms.proofs.Word.{word}
 use Rattle.forms.proofs.Number.{number}
 use Rattle.forms.proofs.Signed.{from-0}
-use Rattle.forms.proofs.Pair.{pair, Follows}
+use Rattle.forms.proofs.Sequence.{sequence, Follows}
 use Rattle.forms.proofs.Via.{via, Same}
 use Rattle.forms.proofs.Place.{Reads, reads-both, reads-via}
 
@@ -38,11 +38,11 @@ module _ {A : Type 0} (p : Form A) (may : p .Follow 32) where
   pub space-after : Follows p (word (ascii " "))
   space-after b r v h = may
 
-  pub number-after : Follows (pair p (word (ascii " ")) space-after) plain
+  pub number-after : Follows (sequence p (word (ascii " ")) space-after) plain
   number-after b r v h = any (digits b ++ r)
 
   abbrev parts : Form ((A × Unit {0}) × ℕ)
-  parts = pair (pair p (word (ascii " ")) space-after) plain number-after
+  parts = sequence (sequence p (word (ascii " ")) space-after) plain number-after
 
   abbrev both : (A × Unit {0}) × ℕ → A × ℕ
   both x = (x .0 .0, x .1)
@@ -111,5 +111,5 @@ module _ (t : List ℕ) where
       let p = numbers n in
       let may = spaced n .ends 32 no-digit in
       reads-via (parts p may) (both p may) (apart p may) (Valid p may) (text p may) (same-further p may) t i before ((x, tt), v) e stop
-      (reads-both (pair p (word (ascii " ")) (space-after p may)) plain (number-after p may) t i before (x, tt) e₁ mid₁ v e stop
+      (reads-both (sequence p (word (ascii " ")) (space-after p may)) plain (number-after p may) t i before (x, tt) e₁ mid₁ v e stop
       (reads-both p (word (ascii " ")) (space-after p may) t i before x e₀ mid₀ tt e₁ mid₁ a b) (reads-plain e₁ mid₁ v e stop c))

@@ -13,8 +13,8 @@ module _ {A : Type 0} where
   take-replicate k m zero-entry = rw (← (replicate-append-replicate k m zero-entry)) (take-at _ _ k (length-replicate k zero-entry))
 
   -- with k places left
-  padded-room : (n k : ℕ) (zero-entry : A) (xs : List A) → n ≡ length xs + k → padded n zero-entry xs ≡ xs ++ replicate k zero-entry
-  padded-room n k zero-entry xs e =
+  padded-split : (n k : ℕ) (zero-entry : A) (xs : List A) → n ≡ length xs + k → padded n zero-entry xs ≡ xs ++ replicate k zero-entry
+  padded-split n k zero-entry xs e =
       let f : n ≡ k + length xs = omega arith in
       ap (λ (m : ℕ). take m (xs ++ replicate n zero-entry)) e
       ∙ take-append-add xs (replicate n zero-entry) k
@@ -30,10 +30,10 @@ module _ {A : Type 0} where
       let k = n - suc (length xs) in
       let here : n ≡ length xs + suc k = omega arith in
       let next : n ≡ length (xs ++ x ∷ []) + k = rw length-append (omega arith) in
-      ap (λ (l : List A). set l (length xs) x) (padded-room n (suc k) zero-entry xs here)
+      ap (λ (l : List A). set l (length xs) x) (padded-split n (suc k) zero-entry xs here)
       ∙ set-append-seam xs zero-entry (replicate k zero-entry) x
       ∙ sym (append-snoc xs x (replicate k zero-entry))
-      ∙ sym (padded-room n k zero-entry (xs ++ x ∷ []) next)
+      ∙ sym (padded-split n k zero-entry (xs ++ x ∷ []) next)
 
   pub padded-full : (n : ℕ) (zero-entry : A) (xs : List A) (x : A) → n ≤ length xs → padded n zero-entry (xs ++ x ∷ []) ≡ padded n zero-entry xs
   padded-full n zero-entry xs x h =
@@ -61,6 +61,6 @@ module _ {A : Type 0} where
   pub padded-past : (n : ℕ) (zero-entry : A) (xs : List A) (i : ℕ) → length xs ≤ n → length xs ≤ i → getD (padded n zero-entry xs) i zero-entry ≡ zero-entry
   padded-past n zero-entry xs i few past =
       let k = n - length xs in
-      ap (λ (l : List A). getD l i zero-entry) (padded-room n k zero-entry xs (omega arith))
+      ap (λ (l : List A). getD l i zero-entry) (padded-split n k zero-entry xs (omega arith))
       ∙ getD-past xs (replicate k zero-entry) i zero-entry past
       ∙ getD-replicate k (i - length xs) zero-entry

@@ -47,7 +47,7 @@ module _ (t : List ℕ) (first : ℕ) (next₀ : Cursor) (further : ℕ) (values
       → Scans (number 0 from-0) t mid v after
       → after .at ≤ length t
       → Several t first next₀ further (set values (i + 1) v) after (i + 1)
-  several-next more room mid space v after s l = record {
+  several-next more enough mid space v after s l = record {
     few = omega arith;
     four = length-set values (i + 1) v ∙ so-far .four;
     within = l;

@@ -10,15 +10,15 @@ use Rattle.refusal.specs.declared.Verdict.the-variants.{Accepted}
 use Rattle.printer.specs.Written.{written}
 use Rattle.output.specs.declared.TextWritten.{TextWritten}
 
--- refused by what comes before, or by rule 10 with the bytes needed, where the output of `room` bytes is shorter than the text
+-- refused by what comes before, or by rule 10 with the bytes needed, where the output of `size` bytes is shorter than the text
 unfoldable pub writingVerdict : Verdict → List ℕ → ℕ → Verdict
-writingVerdict before text room = firstOf (before ∷ unless (leb (length text) room) OutputLength (length text) ∷ [])
+writingVerdict before text size = firstOf (before ∷ unless (leb (length text) size) OutputLength (length text) ∷ [])
 
 -- the number of bytes written, 0 with a refusal
 unfoldable pub writtenOf : Verdict → List ℕ → ℕ → TextWritten
-writtenOf before text room = record {
-  verdict = writingVerdict before text room;
-  bytes = whenAccepted (writingVerdict before text room) (length text) 0;
+writtenOf before text size = record {
+  verdict = writingVerdict before text size;
+  bytes = whenAccepted (writingVerdict before text size) (length text) 0;
 }
 
 -- the output: the text, and what was past it; unchanged with a refusal

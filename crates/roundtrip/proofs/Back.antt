@@ -19,12 +19,12 @@ use Rattle.booktext.proofs.Accepted.{well-formed, same-record}
 use Rattle.booktext.proofs.Records.{entries-of-record, record-arrays}
 use Rattle.booktext.proofs.Room.{room-bounds, text-short}
 use Rattle.printer.specs.Written.{written}
-use Rattle.reader.specs.declared.BookRead.{BookRead}
-use Rattle.reader.specs.Reading.{readOf}
-use Rattle.reader.proofs.Answers.{read-text, accepted-answer}
+use Rattle.bookreader.specs.declared.BookRead.{BookRead}
+use Rattle.bookreader.specs.Reading.{readOf}
+use Rattle.bookreader.proofs.Answers.{read-text, accepted-answer}
 use Rattle.output.specs.Writing.{writingVerdict, writtenOf, outputAfter}
 use Rattle.output.proofs.Answers.{accepted-before, text-written as written-text}
-use Rattle.writer.specs.Writing.{textOf, writeVerdict, writeOf, outputOf}
+use Rattle.bookwriter.specs.Writing.{textOf, writeVerdict, writeOf, outputOf}
 use Rattle.roundtrip.proofs.Reading.{ReadAs, accepted-as}
 
 -- a record whose book is accepted

@@ -20,9 +20,9 @@ use Rattle.booktext.specs.BookText.{bookText}
 use Rattle.booktext.specs.WellFormed.{WellFormedBook}
 use Rattle.booktext.specs.Record.{bookRecord}
 use Rattle.booktext.proofs.BookForm.{book, book-reading}
-use Rattle.reader.specs.declared.BookRead.{BookRead}
-use Rattle.reader.specs.Reading.{refusedAnswer, bookAnswer, readOf}
-use Rattle.reader.proofs.Answers.{answered, any-reading, read-long, read-other, accepted-answer}
+use Rattle.bookreader.specs.declared.BookRead.{BookRead}
+use Rattle.bookreader.specs.Reading.{refusedAnswer, bookAnswer, readOf}
+use Rattle.bookreader.proofs.Answers.{answered, any-reading, read-long, read-other, accepted-answer}
 use Rattle.roundtrip.specs.NotOfShape.{NotOfShape}
 
 -- What a text of at most 4,096 bytes is answered by; any other is refused by its length.

@@ -28,7 +28,7 @@ pub next-row : (out : List ℕ) (rows : List Row) (i n : ℕ) (d : Row) (mid exi
     → mid ≡ written out 0 (joined rowNumbers (take i rows))
     → exit ≡ written mid (7 * i) (rowNumbers (getD rows i d))
     → exit ≡ written out 0 (joined rowNumbers (take (i + 1) rows))
-next-row out rows i n d mid exit h k room before this =
+next-row out rows i n d mid exit h k enough before this =
     let place : 7 * i ≡ 0 + length (joined rowNumbers (take i rows)) = omega (arith, rows-size rows i (omega arith)) in
     let end : 7 * i + 7 ≡ 7 * i + length (rowNumbers (getD rows i d)) = omega (arith, row-size (getD rows i d)) in
     let fits : 0 + length (joined rowNumbers (take n rows)) ≤ length out = omega (arith, rows-size rows n k) in

@@ -1,4 +1,4 @@
--- The rows of an award as numbers, for C. No amount of an award is negative (demand3/proofs/Fits.antt: `text-row-up-to`), so that no
+-- The rows of an award as numbers, for C. No amount of an award is negative (endtoend/proofs/Fits.antt: `text-row-up-to`), so that no
 -- sign is lost.
 use Prim.Native.Nat.{ℕ}
 use mathlib.Core.List.{List, [], _∷_}

@@ -54,7 +54,7 @@ fn put(rows: &mut [u64], at: usize, numbers: &[u64])
     }
 }
 
-// The rows of an award, from the list's beginning on. It is pub for `awardnumbers`, which has measured that there is room.
+// The rows of an award, from the list's beginning on. It is pub for `awardnumbers`, which has measured the list.
 pub fn put_rows(rows: &mut [u64], award: Award)
     requires { ⌜ award .count ≤ 8 ⌝ }
     requires { ⌜ 7 * award .count ≤ length (now rows) ⌝ }

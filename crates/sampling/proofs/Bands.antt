@@ -12,7 +12,7 @@ use lib.ListN.{length, getD}
 use Rattle.lists.specs.Every.{every}
 use Rattle.lists.proofs.Tests.{both-left, both-right}
 use Rattle.sampling.specs.declared.Band.{Band}
-use Rattle.sampling.specs.Sampling.{band, printed, sampleAbove, sampleOf}
+use Rattle.sampling.specs.Sampling.{band, printedTable, sampleAbove, sampleOf}
 use Rattle.sampling.proofs.Scan.{zero-samples}
 
 -- the highest quantities rise strictly
@@ -104,25 +104,25 @@ beyond before most q (b ∷ bs) e h =
 
 -- The rule.
 
-pub printed-rises : rising 0 printed ≡ true
-unfolding printed
+pub printed-rises : rising 0 printedTable ≡ true
+unfolding printedTable
 printed-rises = refl
 
-pub every-quantity-lies : (q : ℕ) → 1 ≤ q → q ≤ 1000000 → (k : ℕ) × LiesIn 0 printed k q
-unfolding printed
-every-quantity-lies q low high = reached 0 printed 15 q (lit≤ tt) low high
+pub every-quantity-lies : (q : ℕ) → 1 ≤ q → q ≤ 1000000 → (k : ℕ) × LiesIn 0 printedTable k q
+unfolding printedTable
+every-quantity-lies q low high = reached 0 printedTable 15 q (lit≤ tt) low high
 
-pub no-second-band : (j k q : ℕ) → LiesIn 0 printed j q → LiesIn 0 printed k q → j ≡ k
-no-second-band j k q l m = one-band 0 printed j k q printed-rises l m
+pub no-second-band : (j k q : ℕ) → LiesIn 0 printedTable j q → LiesIn 0 printedTable k q → j ≡ k
+no-second-band j k q l m = one-band 0 printedTable j k q printed-rises l m
 
-pub sample-in-band : (k q : ℕ) → LiesIn 0 printed k q → sampleOf printed q ≡ bandAt printed k .sample
+pub sample-in-band : (k q : ℕ) → LiesIn 0 printedTable k q → sampleOf printedTable q ≡ bandAt printedTable k .sample
 unfolding sampleOf
-sample-in-band k q l = in-band 0 printed k q printed-rises l
+sample-in-band k q l = in-band 0 printedTable k q printed-rises l
 
-pub zero-samples-zero : sampleOf printed 0 ≡ 0
+pub zero-samples-zero : sampleOf printedTable 0 ≡ 0
 unfolding sampleOf
-zero-samples-zero = zero-samples 0 printed
+zero-samples-zero = zero-samples 0 printedTable
 
-pub beyond-samples-zero : (q : ℕ) → 1000000 < q → sampleOf printed q ≡ 0
-unfolding sampleOf printed every
-beyond-samples-zero q h = beyond 0 1000000 q printed refl h
+pub beyond-samples-zero : (q : ℕ) → 1000000 < q → sampleOf printedTable q ≡ 0
+unfolding sampleOf printedTable every
+beyond-samples-zero q h = beyond 0 1000000 q printedTable refl h

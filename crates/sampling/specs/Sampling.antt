@@ -9,8 +9,8 @@ abbrev pub band : ℕ → ℕ → Band
 band highest sample = record { highest = highest; sample = sample }
 
 -- highest quantity, sample
-unfoldable pub printed : List Band
-printed =
+unfoldable pub printedTable : List Band
+printedTable =
     band 1 1
     ∷ band 8 2
     ∷ band 15 3

@@ -1,6 +1,6 @@
 // How many blanks of an awarded quantity are sampled.
 ghost use mathlib.Core.Path.{_≡_};
-ghost use Rattle.sampling.specs.Sampling.{printed, sampleOf};
+ghost use Rattle.sampling.specs.Sampling.{printedTable, sampleOf};
 
 mod table;
 
@@ -15,7 +15,7 @@ pub struct Band {
 // The sample by the printed table. Quantity 0 samples 0, and so does one above 1,000,000, which
 // lies in no band and which no award has.
 pub fn sample(quantity: Blanks) -> Blanks
-    ensures { λ r. ⌜ r .0 ≡ sampleOf printed (quantity .0) ⌝ }
+    ensures { λ r. ⌜ r .0 ≡ sampleOf printedTable (quantity .0) ⌝ }
 {
     Blanks(sample_in(table::PRINTED, quantity.0))
 }

@@ -10,16 +10,16 @@ use lib.Seq.{getD-set-same, getD-set-other}
 use Rattle.lists.specs.All.{All}
 use Rattle.book.specs.declared.Segment.{Segment}
 use Rattle.choices.proofs.Sound.{SoundSegment}
-use Rattle.filling.specs.declared.Choice.{Choice}
-use Rattle.filling.specs.Records.{row, firstRows, SoundRows}
-use Rattle.filling.proofs.Rows.{rows-next, rows-same}
+use Rattle.meritorder.specs.declared.Choice.{Choice}
+use Rattle.meritorder.specs.Records.{segmentAt, firstSegments, SoundColumns}
+use Rattle.meritorder.proofs.Segments.{rows-next, rows-same}
 
 abbrev rowIn : Choice → ℕ → Segment
-rowIn c = row (c .starts) (c .ends) (c .units) (c .fixed)
+rowIn c = segmentAt (c .starts) (c .ends) (c .units) (c .fixed)
 
 -- the first n segments of a choice
 abbrev pub rowsIn : Choice → ℕ → List Segment
-rowsIn c n = firstRows (rowIn c) n
+rowsIn c n = firstSegments (rowIn c) n
 
 pub record Held (c : Choice) : Type 0 where
   pub starts : length (c .starts) ≡ 8
@@ -75,7 +75,7 @@ module _ (c : Choice) (i : ℕ) (s : Segment) (z : ℤ) (n : ℕ) (held : Held c
 
 -- sound where the segments are
 pub sound-put : (c : Choice) (i : ℕ) (s : Segment) (before : List Segment) → i < 8 → rowsIn c (i + 1) ≡ s ∷ before → SoundSegment s
-    → All SoundSegment before → SoundRows (c .starts) (c .ends) (c .units) (c .fixed) (i + 1)
+    → All SoundSegment before → SoundColumns (c .starts) (c .ends) (c .units) (c .fixed) (i + 1)
 sound-put c i s before few e h all = record { few = omega arith; each = rw e (h, all) }
 
 -- `next` is the choice c but for the segment of bidder `at`, whatever it is

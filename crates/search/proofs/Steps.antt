@@ -18,18 +18,18 @@ use Rattle.supply.specs.Supply.{segment0, supplyOf, suppliesOf}
 use Rattle.divisions.specs.Award.{Priced, pick}
 use Rattle.choices.proofs.Choice.{fits, filled}
 use Rattle.choices.proofs.Search.{each, leaf, search, searched}
-use Rattle.comparison.specs.declared.Best.{Best}
+use Rattle.comparison.specs.declared.MaybeDivision.{MaybeDivision}
 use Rattle.comparison.specs.Records.{found}
-use Rattle.filling.specs.declared.Choice.{Choice}
-use Rattle.filling.specs.Records.{row, firstRows, SoundRows, chosen}
-use Rattle.filling.proofs.Rows.{rows-none}
+use Rattle.meritorder.specs.declared.Choice.{Choice}
+use Rattle.meritorder.specs.Records.{segmentAt, firstSegments, SoundColumns, chosen}
+use Rattle.meritorder.proofs.Segments.{rows-none}
 
 -- A choice: none yet, and one with a segment more.
 
 nothing-chosen : (c : Choice) → c .count ≡ 0 → chosen c ≡ []
-nothing-chosen c e = rw e (rows-none (row (c .starts) (c .ends) (c .units) (c .fixed)))
+nothing-chosen c e = rw e (rows-none (segmentAt (c .starts) (c .ends) (c .units) (c .fixed)))
 
-pub sound-nothing : (s e u : List ℕ) (f : List ℤ) → SoundRows s e u f 0
+pub sound-nothing : (s e u : List ℕ) (f : List ℤ) → SoundColumns s e u f 0
 sound-nothing s e u f = record { few = omega arith; each = rw rows-none tt }
 
 -- A complete choice.
@@ -43,7 +43,7 @@ module _ (demand : ℕ) (c : List Segment) (o : Option Priced) where
   fit e d f = rw (e, f)
 
 -- for as many bidders as the book has
-pub for-all : (n m : ℕ) (r best : Best) (f : Option Priced → Option Priced) → n ≡ m → found n r ≡ f (found n best)
+pub for-all : (n m : ℕ) (r best : MaybeDivision) (f : Option Priced → Option Priced) → n ≡ m → found n r ≡ f (found n best)
     → found m r ≡ f (found m best)
 for-all n m r best f e h = subst (λ (k : ℕ). found k r ≡ f (found k best)) e h
 
@@ -117,11 +117,11 @@ module _ (b : Bid) where
   few-segments = rw length-take (omega arith)
 
 -- The search from no choice and no division.
-pub from-nothing : (demand : ℕ) (supplies : List (List Segment)) (n : ℕ) (c : Choice) (best : Best) → c .count ≡ 0 → best .found ≡ false
+pub from-nothing : (demand : ℕ) (supplies : List (List Segment)) (n : ℕ) (c : Choice) (best : MaybeDivision) → c .count ≡ 0 → best .found ≡ false
     → search demand supplies (chosen c) (found n best) ≡ searched demand supplies
 from-nothing demand supplies n c best e f = rw (nothing-chosen c e, f)
 
 -- A book without bids.
-pub no-bidders : (demand : ℕ) (bids : List Bid) (n : ℕ) (at : ℕ → Segment) (r best : Best) → n ≡ 0 → best .found ≡ false
-    → found 0 r ≡ leaf demand (firstRows at 0) (found 0 best) → found n r ≡ searched demand (suppliesOf (map bidEntries (take n bids)))
+pub no-bidders : (demand : ℕ) (bids : List Bid) (n : ℕ) (at : ℕ → Segment) (r best : MaybeDivision) → n ≡ 0 → best .found ≡ false
+    → found 0 r ≡ leaf demand (firstSegments at 0) (found 0 best) → found n r ≡ searched demand (suppliesOf (map bidEntries (take n bids)))
 no-bidders demand bids n at r best e f h = rw e (rw (rows-none at, f) at h ∙ sym (none-left demand [] none))

@@ -11,13 +11,13 @@ ghost use Rattle.divisions.specs.Award.{awardOf};
 ghost use Rattle.choices.proofs.Search.{leaf, search};
 ghost use Rattle.choices.proofs.Sound.{SoundSegment};
 ghost use Rattle.comparison.specs.Records.{found};
-ghost use Rattle.filling.specs.Records.{rows, SoundRows, chosen, Sound};
+ghost use Rattle.meritorder.specs.Records.{segmentsOf, SoundColumns, chosen, Sound};
 ghost use Rattle.search.specs.Searchable.{Searchable};
 use book::Bid;
 use book::Book;
 use book::Segment;
-use comparison::Best;
-use filling::Choice;
+use comparison::MaybeDivision;
+use meritorder::Choice;
 use money::Blanks;
 use money::Cents;
 
@@ -29,15 +29,15 @@ fn leaf<'a>(
     ends: &'a [u64; 8],
     units: &'a [u64; 8],
     fixed: &'a [i64; 8],
-    best: Best,
-) -> Best
-    requires { ⌜ SoundRows (now starts) (now ends) (now units) (now fixed) n ⌝ }
-    ensures { λ r. ⌜ found n r ≡ leaf (demand .0) (rows (now (starts .entry)) (now (ends .entry)) (now (units .entry)) (now (fixed .entry)) n) (found n best) ⌝ }
+    best: MaybeDivision,
+) -> MaybeDivision
+    requires { ⌜ SoundColumns (now starts) (now ends) (now units) (now fixed) n ⌝ }
+    ensures { λ r. ⌜ found n r ≡ leaf (demand .0) (segmentsOf (now (starts .entry)) (now (ends .entry)) (now (units .entry)) (now (fixed .entry)) n) (found n best) ⌝ }
 {
-    if !filling::fits(starts, ends, n, demand) {
+    if !meritorder::fits(starts, ends, n, demand) {
         return best;
     }
-    let new = filling::fill(starts, ends, units, fixed, n, demand);
+    let new = meritorder::fill(starts, ends, units, fixed, n, demand);
     comparison::pick(best, new, n)
 }
 
@@ -64,7 +64,7 @@ fn choose(c: Choice, s: Segment) -> Choice
 // The last bidder: with each of its segments, from the last to segment 0, the choice is full. It
 // returns the best division so far. Most of the time is spent here, so the choice is not copied for
 // each segment.
-fn last_bidder(demand: Blanks, bid: Bid, c: Choice, best: Best) -> Best
+fn last_bidder(demand: Blanks, bid: Bid, c: Choice, best: MaybeDivision) -> MaybeDivision
     requires { ⌜ AcceptedBid (bidEntries bid) ⌝ }
     requires { ⌜ Sound c ⌝ }
     requires { ⌜ c .count < 8 ⌝ }
@@ -99,7 +99,7 @@ fn last_bidder(demand: Blanks, bid: Bid, c: Choice, best: Best) -> Best
 // A segment is chosen for bidder `at`, each in turn from its last to segment 0, and the search calls
 // itself for the bidders after it, of whom there is at least one; where only one is left, `last_bidder`
 // is called, which is not passed the book: it would be copied. It returns the best division so far.
-fn search(book: Book, at: usize, c: Choice, best: Best) -> Best
+fn search(book: Book, at: usize, c: Choice, best: MaybeDivision) -> MaybeDivision
     requires { ⌜ Searchable (bookEntries book) ⌝ }
     requires { ⌜ Sound c ⌝ }
     requires { ⌜ (at + 1 < book .count) × (c .count ≡ at) ⌝ }
@@ -136,19 +136,19 @@ fn no_choice() -> Choice
     }
 }
 
-fn no_division() -> Best
+fn no_division() -> MaybeDivision
     ensures { λ r. ⌜ r .found ≡ false ⌝ }
 {
-    Best {
+    MaybeDivision {
         found: false,
-        total: Cents(0),
+        cost: Cents(0),
         quantities: [Blanks(0); 8],
     }
 }
 
 // The award of a book's bids, if they have a division: the best of all divisions. It is pub for
 // clearing, which asks for it with the bids of an accepted book, or with all but one of them.
-pub fn best_division(book: Book) -> Best
+pub fn best_division(book: Book) -> MaybeDivision
     requires { ⌜ Searchable (bookEntries book) ⌝ }
     ensures { λ r. ⌜ found (book .count) r ≡ awardOf (book .demand .0) (suppliesOf (bookEntries book .bids)) ⌝ }
 {

@@ -10,7 +10,7 @@ use Rattle.book.specs.declared.Book.{Book}
 use Rattle.book.specs.Entries.{BookEntries, bookEntries, SameBook}
 use Rattle.refusal.specs.declared.Verdict.the-variants.{Accepted}
 use Rattle.supply.specs.Supply.{suppliesOf}
-use Rattle.supply.specs.Allocation.{total, costOf}
+use Rattle.supply.specs.Allocation.{bought, costOf}
 use Rattle.split.specs.Split.{splitVerdict, splitOf}
 
 -- the same book, the same answer
@@ -23,10 +23,10 @@ module _ (b : BookEntries) (rs : List ℕ) (accepted : splitVerdict b rs ≡ Acc
   unfolding splitOf
   price-is-sum = rw accepted
 
-  answered : splitOf b rs .meets ≡ eqb (total rs) (b .demand)
+  answered : splitOf b rs .meets ≡ eqb (bought rs) (b .demand)
   unfolding splitOf
   answered = rw accepted
 
   -- yes if and only if the quantities add up to the demand
-  pub yes-iff : (splitOf b rs .meets ≡ true) ↔ (total rs ≡ b .demand)
-  yes-iff = (λ e. eqb-true (total rs) (b .demand) (sym answered ∙ e), λ e. answered ∙ eq-eqb (total rs) (b .demand) e)
+  pub yes-iff : (splitOf b rs .meets ≡ true) ↔ (bought rs ≡ b .demand)
+  yes-iff = (λ e. eqb-true (bought rs) (b .demand) (sym answered ∙ e), λ e. answered ∙ eq-eqb (bought rs) (b .demand) e)

@@ -22,7 +22,7 @@ use Rattle.book.proofs.Bids.{entriesFrom, entries-next, entries-done}
 use Rattle.refusal.specs.declared.Rule.the-variants.{SplitQuantity}
 use Rattle.refusal.specs.declared.Verdict.the-variants.{Accepted, Refused}
 use Rattle.supply.specs.Supply.{supplyOf, suppliesOf, offers, priceAt}
-use Rattle.supply.specs.Allocation.{total, costOf}
+use Rattle.supply.specs.Allocation.{bought, costOf}
 use Rattle.supply.proofs.Offers.{Small}
 use Rattle.split.specs.Split.{quantitiesVerdict, splitOf, refusedSplit}
 use Rattle.split.proofs.Steps.{refused-split, book-passed, split-done, split-long, split-short, split-off, split-next, cost-next, total-next}
@@ -34,7 +34,7 @@ pub record Left (book : Book) (rs : List ℕ) (price : ℤ) (sum i : ℕ) : Type
   pub price-size : natAbs price ≤ mostCents * i
   pub verdict : quantitiesVerdict 2 (bookEntries book .bids) rs ≡ quantitiesVerdict (2 + i) (entriesFrom i (book .count) (book .bids)) (drop i rs)
   pub cost : costOf (suppliesOf (bookEntries book .bids)) rs ≡ price +ℤ costOf (suppliesOf (entriesFrom i (book .count) (book .bids))) (drop i rs)
-  pub blanks : total rs ≡ sum + total (drop i rs)
+  pub blanks : bought rs ≡ sum + bought (drop i rs)
 
 pub left-all : (book : Book) (rs : List ℕ) → Left book rs (pos 0) 0 0
 left-all book rs = record {
@@ -116,10 +116,10 @@ module _ {book : Book} {rs : List ℕ} {price : ℤ} {sum i : ℕ} (left : Left 
     -- as many quantities as bids
     pub complete : length rs ≤ i
         → record { verdict = Accepted; price = record { 0 = price }; meets = eqb sum (book .demand .0) } ≡ splitOf (bookEntries book) rs
-    unfolding costOf total splitOf
+    unfolding costOf bought splitOf
     complete h =
         let over = drop-of-length-le rs h in
         let passed = book-passed (bookEntries book) rs accepted ∙ left .verdict ∙ split-done (2 + i) _ (drop i rs) none over in
         let cost = left .cost ∙ ap (λ (bs : List BidEntries). price +ℤ costOf (suppliesOf bs) (drop i rs)) none ∙ +ℤ-idr price in
-        let blanks = left .blanks ∙ ap (λ (l : List ℕ). sum + total l) over ∙ add-zero sum in
+        let blanks = left .blanks ∙ ap (λ (l : List ℕ). sum + bought l) over ∙ add-zero sum in
         rw (passed, cost, blanks)

@@ -11,7 +11,7 @@ use Rattle.refusal.specs.declared.Rule.{Rule}
 use Rattle.refusal.specs.declared.Rule.the-variants.{SplitQuantity}
 use Rattle.refusal.specs.declared.Verdict.the-variants.{Accepted, Refused}
 use Rattle.supply.specs.Supply.{supplyOf, suppliesOf, offers, priceAt}
-use Rattle.supply.specs.Allocation.{total, costOf}
+use Rattle.supply.specs.Allocation.{bought, costOf}
 use Rattle.split.specs.Split.{quantitiesVerdict, splitVerdict, splitOf, refusedSplit}
 
 module _ (line : ℕ) (bs : List BidEntries) (rs : List ℕ) where
@@ -41,8 +41,8 @@ module _ (line : ℕ) (bs : List BidEntries) (rs : List ℕ) where
       unfolding costOf
       cost-next = rw (here, this)
 
-      pub total-next : total rs ≡ r + total rs′
-      unfolding total
+      pub total-next : bought rs ≡ r + bought rs′
+      unfolding bought
       total-next = rw this
 
 -- The answer, by its verdict.

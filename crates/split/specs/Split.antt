@@ -11,7 +11,7 @@ use Rattle.refusal.specs.declared.Rule.the-variants.{SplitQuantity}
 use Rattle.refusal.specs.declared.Verdict.{Verdict}
 use Rattle.refusal.specs.declared.Verdict.the-variants.{Accepted, Refused}
 use Rattle.supply.specs.Supply.{supplyOf, suppliesOf, offers}
-use Rattle.supply.specs.Allocation.{total, costOf}
+use Rattle.supply.specs.Allocation.{bought, costOf}
 use Rattle.split.specs.declared.SplitPrice.{SplitPrice}
 
 -- rule 11: the line of the first bid whose quantity is missing, or neither 0 nor on a segment; for a list too long and no
@@ -31,7 +31,7 @@ unfoldable pub splitOf : BookEntries → List ℕ → SplitPrice
 splitOf b rs = record {
   verdict = splitVerdict b rs;
   price = record { 0 = whenAccepted (splitVerdict b rs) (costOf (suppliesOf (b .bids)) rs) (pos 0) };
-  meets = whenAccepted (splitVerdict b rs) (eqb (total rs) (b .demand)) false;
+  meets = whenAccepted (splitVerdict b rs) (eqb (bought rs) (b .demand)) false;
 }
 
 abbrev pub refusedSplit : Verdict → SplitPrice

@@ -6,9 +6,9 @@ use Rattle.book.specs.declared.Segment.{Segment}
 use Rattle.supply.specs.Supply.{priceAt}
 
 -- how many blanks it gives in all
-unfoldable pub total : List ℕ → ℕ
-total [] = 0
-total (r ∷ rs) = r + total rs
+unfoldable pub bought : List ℕ → ℕ
+bought [] = 0
+bought (r ∷ rs) = r + bought rs
 
 -- its price is the sum of the bidders' prices by their supply functions; it is used only where there is a quantity for each
 unfoldable pub costOf : List (List Segment) → List ℕ → ℤ

@@ -1,4 +1,4 @@
--- What every text gets, of each answer that is worked out from its award. `room` is the length of the lent output and `out` its bytes.
+-- What every text gets, of each answer that is worked out from its award. `size` is the length of the lent output and `out` its bytes.
 use Prim.Native.Nat.{ℕ}
 use mathlib.Core.List.{List}
 use Rattle.refusal.specs.Checks.{whenAccepted}
@@ -14,11 +14,11 @@ clearText t = answerOf clearOf refusedClearing t
 
 -- the sheet of the award: refused by 1, 2, 3 to 8, then 9, then 10
 unfoldable pub sheetWritten : List ℕ → ℕ → TextWritten
-sheetWritten t room = writtenOf (clearText t .verdict) (sheetText (clearText t .award)) room
+sheetWritten t size = writtenOf (clearText t .verdict) (sheetText (clearText t .award)) size
 
 unfoldable pub sheetOutput : List ℕ → List ℕ → List ℕ
 sheetOutput t out = outputAfter (clearText t .verdict) (sheetText (clearText t .award)) out
 
 -- what the program `clear` prints: the sheet, or the line of the refusal
-unfoldable pub printedText : List ℕ → List ℕ
-printedText t = whenAccepted (clearText t .verdict) (sheetText (clearText t .award)) (refusalText (clearText t .verdict))
+unfoldable pub clearPrints : List ℕ → List ℕ
+clearPrints t = whenAccepted (clearText t .verdict) (sheetText (clearText t .award)) (refusalText (clearText t .verdict))

@@ -8,7 +8,7 @@ use refusal::Verdict;
 pub fn clear(text: &[u8]) -> Clearing
     ensures { λ r. ⌜ r ≡ clearText (now (text .entry)) ⌝ }
 {
-    let read = reader::read(text);
+    let read = bookreader::read(text);
     let verdict = read.verdict;
     if let Verdict::Refused(_, _) = verdict {
         return clearing::refused(verdict);

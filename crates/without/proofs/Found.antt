@@ -7,13 +7,13 @@ use Rattle.book.specs.declared.Book.{Book}
 use Rattle.book.specs.Entries.{BookEntries, bookEntries}
 use Rattle.supply.specs.Supply.{suppliesOf}
 use Rattle.divisions.specs.Award.{Priced, awardOf, awardOfBook}
-use Rattle.comparison.specs.declared.Best.{Best}
+use Rattle.comparison.specs.declared.MaybeDivision.{MaybeDivision}
 use Rattle.comparison.specs.Records.{divisionIn, found}
 use Rattle.award.specs.declared.Total.the-variants.{Amount, Nothing}
 use Rattle.without.specs.Without.{bookWithout, totalOf, totalWithout}
 
 -- The search's answer for a record: a division, or that there is none.
-module _ (book : Book) (best : Best) (searched : found (book .count) best ≡ awardOf (book .demand .0) (suppliesOf (bookEntries book .bids))) where
+module _ (book : Book) (best : MaybeDivision) (searched : found (book .count) best ≡ awardOf (book .demand .0) (suppliesOf (bookEntries book .bids))) where
   pub award-some : best .found ≡ true → awardOfBook (bookEntries book) ≡ some (divisionIn (book .count) best)
   unfolding awardOfBook
   award-some h = sym searched ∙ rw h
@@ -28,7 +28,7 @@ module _ (book : Book) (best : Best) (searched : found (book .count) best ≡ aw
     unfolding totalWithout
     total-is o e = ap totalOf (sym e ∙ ap awardOfBook less)
 
-    pub total-amount : best .found ≡ true → Amount (best .total) ≡ totalWithout b at
+    pub total-amount : best .found ≡ true → Amount (best .cost) ≡ totalWithout b at
     total-amount h = total-is _ (award-some h)
 
     pub total-nothing : best .found ≡ false → Nothing ≡ totalWithout b at

@@ -26,7 +26,7 @@ fn book_without(book: Book, at: usize) -> Book
 }
 
 // The total that clearing gives for the bids left: `Nothing` only where they have no division. It is pub for the rows of an award.
-pub fn total(book: Book, at: usize) -> Total
+pub fn total_without(book: Book, at: usize) -> Total
     requires { ⌜ bookVerdict (bookEntries book) ≡ Accepted ⌝ }
     requires { ⌜ at < book .count ⌝ }
     ensures { λ r. ⌜ r ≡ totalWithout (bookEntries book) at ⌝ }
@@ -36,6 +36,6 @@ pub fn total(book: Book, at: usize) -> Total
     if !others.found {
         return Total::Nothing;
     }
-    let total = others.total;
-    Total::Amount(total)
+    let cost = others.cost;
+    Total::Amount(cost)
 }

@@ -4,7 +4,7 @@ use mathlib.Core.List.{List}
 use mathlib.Core.Path.{_∙_}
 use borrow.Author.Needs.{needs}
 use Rattle.book.specs.Entries.{bookEntries}
-use Rattle.reader.specs.declared.BookRead.{BookRead}
+use Rattle.bookreader.specs.declared.BookRead.{BookRead}
 use Rattle.split.specs.declared.SplitPrice.{SplitPrice}
 use Rattle.split.specs.Split.{splitOf, refusedSplit}
 use Rattle.bookanswers.specs.BookAnswers.{splitText}

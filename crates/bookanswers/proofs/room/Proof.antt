@@ -4,7 +4,7 @@ use borrow.Author.Needs.{needs}
 use Rattle.book.specs.declared.RoomFigure.{RoomFigure}
 use Rattle.book.specs.Entries.{bookEntries}
 use Rattle.book.specs.Room.{roomOf}
-use Rattle.reader.specs.declared.BookRead.{BookRead}
+use Rattle.bookreader.specs.declared.BookRead.{BookRead}
 use Rattle.bookanswers.specs.BookAnswers.{roomText}
 use Rattle.bookanswers.proofs.Answers.{if-refused, if-accepted}
 use Rattle.bookanswers.proofs.room.Statement.{statement}

@@ -6,7 +6,7 @@ use borrow.Author.Needs.{needs}
 use Rattle.book.specs.Entries.{bookEntries}
 use Rattle.book.specs.Rules.{bookVerdict}
 use Rattle.booktext.specs.BookText.{bookText}
-use Rattle.reader.specs.declared.BookRead.{BookRead}
+use Rattle.bookreader.specs.declared.BookRead.{BookRead}
 use Rattle.roundtrip.proofs.Back.{book-accepted}
 use Rattle.bookanswers.specs.BookAnswers.{bookWritten, bookOutput}
 use Rattle.bookanswers.proofs.Answers.{none-written, text-written}

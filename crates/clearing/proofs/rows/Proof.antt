@@ -39,8 +39,8 @@ this-accepted c =
 loop-holds : tie.Need-loop-holds Inv-loop μ-loop
 loop-holds c = made-none (c .before .args .t1) (c .before .args .t2) (c .no-row .result) (c .no-row .ensures)
 
-total-requires : tie.Need-total-requires Inv-loop μ-loop
-total-requires c κs = (c .before .before .before .before .before .pre, omega arith)
+total-without-requires : tie.Need-total-without-requires Inv-loop μ-loop
+total-without-requires c κs = (c .before .before .before .before .before .pre, omega arith)
 
 row-of-requires : tie.Need-row-of-requires Inv-loop μ-loop
 row-of-requires c κs = let kept = this-accepted (c .before .before .before) in (kept .count-high, kept .ranges)
@@ -50,7 +50,7 @@ loop-again c =
     let l = c .before .before .before .before in
     let at = l .before .loop in
     let s = l .before .before .before in
-    let row = c .row-of .ensures ∙ ap (rowOf _ _) (c .before .total .ensures) in
+    let row = c .row-of .ensures ∙ ap (rowOf _ _) (c .before .total-without .ensures) in
     made-next (s .args .t1) (s .args .t2) (few s) (held s) (quantities-held s) (at .i) (l .loop-test .taken) (at .rows) _ (at .inv) row
 
 returns : tie.Need-returns Inv-loop μ-loop
@@ -71,7 +71,7 @@ rows-spec =
     (λ c. omega (arith, few (c .before .before .before)))
     (λ c. omega (arith, few (c .before .before .before .before)))
     (λ c. omega (arith, few (c .before .before .before .before)))
-    total-requires
+    total-without-requires
     row-of-requires
     (λ c. omega (arith, few (c .before .before .before .before .before .before .before)))
     (λ c. omega (arith, few (c .before .before .before .before .before .before .before)))

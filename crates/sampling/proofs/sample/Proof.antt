@@ -1,11 +1,11 @@
 -- The table in the code is the printed one.
 use borrow.Author.Needs.{needs}
-use Rattle.sampling.specs.Sampling.{printed}
+use Rattle.sampling.specs.Sampling.{printedTable}
 use Rattle.sampling.proofs.sample.Statement.{statement}
 use Rattle.sampling.proofs.sample.Tie as tie
 
 returns : tie.Need-returns
-unfolding printed
+unfolding printedTable
 returns c = c .sample-in .ensures
 
 pub sample-spec : {M : Type 1} → statement M

@@ -13,9 +13,9 @@ use Rattle.book.proofs.Accepted.{AcceptedBid, accepted-at}
 use Rattle.supply.specs.Supply.{supplyOf, suppliesOf}
 use Rattle.choices.proofs.Search.{each, search as searchFrom}
 use Rattle.choices.proofs.Accepted.{sound-segment-at}
-use Rattle.comparison.specs.declared.Best.{Best}
+use Rattle.comparison.specs.declared.MaybeDivision.{MaybeDivision}
 use Rattle.comparison.specs.Records.{found}
-use Rattle.filling.specs.Records.{chosen}
+use Rattle.meritorder.specs.Records.{chosen}
 use Rattle.search.proofs.Steps.{for-all, each-none, each-next, each-all, tried, bidders-next, bidders-last, few-segments}
 use borrow.Fn.Kinds.{In}
 use borrow.Fn.PlainCycle.{Measures, is, falls, and}
@@ -92,14 +92,14 @@ Turn t = search-lts.After-choose (R t) (search-at t) search′.Post search-Inv-l
 abbrev start : (t : ℕ) → Turn t → Start t
 start t c = c .before .before .before .before .before .before .before .before
 
-abbrev Found : (t : ℕ) (c : Turn t) → Best → Type 0
+abbrev Found : (t : ℕ) (c : Turn t) → MaybeDivision → Type 0
 Found t c r =
     let a = start t c .args in
     let later = drop (a .at + 1) (suppliesOf (bookEntries (a .t1) .bids)) in
     let kept = found (a .t1 .count) (c .before .before .before .loop .so-far) in
     found (a .t1 .count) r ≡ searchFrom (a .t1 .demand .0) later (chosen (c .choose .result)) kept
 
-again : (t : ℕ) (c : Turn t) (r : Best) → Found t c r
+again : (t : ℕ) (c : Turn t) (r : MaybeDivision) → Found t c r
     → let a = start t c .args in
     let b = bid t (start t c) in
     let left = c .before .before .before .loop .j - 1 in

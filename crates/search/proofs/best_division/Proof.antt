@@ -15,7 +15,7 @@ use Rattle.choices.proofs.Search.{searched, search as searchFrom}
 use Rattle.choices.proofs.Accepted.{sound-supplies}
 use Rattle.choices.proofs.Finds.{finds}
 use Rattle.comparison.specs.Records.{found}
-use Rattle.filling.specs.Records.{row, chosen}
+use Rattle.meritorder.specs.Records.{segmentAt, chosen}
 use Rattle.search.proofs.Steps.{sound-nothing, for-all, bidders-last, no-bidders, from-nothing}
 use Rattle.search.proofs.best_division.Statement.{statement}
 use Rattle.search.proofs.best_division.Tie as tie
@@ -42,7 +42,7 @@ returns c =
     let b = s .args .t1 in
     let o = e .no-choice .result in
     let is-none = c .before .before .before .before .before .before .if1 .taken in
-    let at = row (o .starts) (o .ends) (o .units) (o .fixed) in
+    let at = segmentAt (o .starts) (o .ends) (o .units) (o .fixed) in
     no-bidders (b .demand .0) (b .bids) (b .count) at (c .leaf .result) (none .result) is-none (none .ensures) (c .leaf .ensures) ∙ award s
 
 last-bidder-requires : tie.Need-last-bidder-requires

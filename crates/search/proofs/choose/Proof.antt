@@ -2,7 +2,7 @@ use Prim.Native.Nat.{_+_}
 use mathlib.Core.Path.{refl}
 use borrow.Author.Needs.{needs}
 use Rattle.lists.proofs.Slices.{length-held}
-use Rattle.filling.proofs.Prices.{fixed-kept}
+use Rattle.meritorder.proofs.Prices.{fixed-kept}
 use Rattle.search.proofs.Columns.{Held, rows-put, sound-put, put}
 use Rattle.search.proofs.choose.Statement.{statement}
 use Rattle.search.proofs.choose.Tie as tie

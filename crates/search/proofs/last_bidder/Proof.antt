@@ -12,10 +12,10 @@ use Rattle.supply.specs.Supply.{supplyOf}
 use Rattle.choices.proofs.Search.{each}
 use Rattle.choices.proofs.Sound.{SoundSegment}
 use Rattle.choices.proofs.Accepted.{sound-segment-at}
-use Rattle.filling.specs.declared.Choice.{Choice}
+use Rattle.meritorder.specs.declared.Choice.{Choice}
 use Rattle.comparison.specs.Records.{found}
-use Rattle.filling.specs.Records.{chosen}
-use Rattle.filling.proofs.Prices.{fixed-kept}
+use Rattle.meritorder.specs.Records.{chosen}
+use Rattle.meritorder.proofs.Prices.{fixed-kept}
 use Rattle.search.proofs.Columns.{rowsIn, Held, put, Kept, kept-none, kept-put, kept-rows, sound-put}
 use Rattle.search.proofs.Steps.{each-none, each-next, each-all, tried, one-left, none-left, few-segments}
 use Rattle.search.proofs.last_bidder.Statement.{statement}

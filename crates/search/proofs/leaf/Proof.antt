@@ -4,14 +4,14 @@ use mathlib.Core.List.{List}
 use Rattle.lists.proofs.Tests.{passed, failed}
 use Rattle.book.specs.declared.Segment.{Segment}
 use Rattle.comparison.specs.Records.{divisionIn, found}
-use Rattle.filling.specs.Records.{rows}
-use Rattle.filling.proofs.Rows.{sound-ranges}
+use Rattle.meritorder.specs.Records.{segmentsOf}
+use Rattle.meritorder.proofs.Segments.{sound-ranges}
 use Rattle.search.proofs.Steps.{unfit, fit}
 use Rattle.search.proofs.leaf.Statement.{statement}
 use Rattle.search.proofs.leaf.Tie as tie
 
 abbrev chosen : tie.Start → List Segment
-chosen s = rows (s .args .starts .now) (s .args .ends .now) (s .args .units .now) (s .args .fixed .now) (s .args .n)
+chosen s = segmentsOf (s .args .starts .now) (s .args .ends .now) (s .args .units .now) (s .args .fixed .now) (s .args .n)
 
 fits-requires : tie.Need-fits-requires
 fits-requires c κs = sound-ranges (c .pre)

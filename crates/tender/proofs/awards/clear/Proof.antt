@@ -2,7 +2,7 @@
 use mathlib.Core.Path.{_∙_}
 use borrow.Author.Needs.{needs}
 use Rattle.book.specs.Entries.{bookEntries}
-use Rattle.reader.specs.declared.BookRead.{BookRead}
+use Rattle.bookreader.specs.declared.BookRead.{BookRead}
 use Rattle.clearing.specs.declared.Clearing.{Clearing}
 use Rattle.clearing.specs.Clearing.{clearOf, refusedClearing}
 use Rattle.tender.specs.FromText.{clearText}

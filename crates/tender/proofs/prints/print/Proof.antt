@@ -4,7 +4,7 @@ use mathlib.Core.List.{List}
 use borrow.Author.Needs.{needs}
 use Rattle.sheettext.specs.Sheet.{sheetText, refusalText}
 use Rattle.clearing.specs.declared.Clearing.{Clearing}
-use Rattle.tender.specs.FromText.{printedText}
+use Rattle.tender.specs.FromText.{clearPrints}
 use Rattle.bookanswers.proofs.Answers.{if-refused, if-accepted, same-text}
 use Rattle.tender.proofs.prints.print.Statement.{statement}
 use Rattle.tender.proofs.prints.print.Tie as tie
@@ -16,14 +16,14 @@ abbrev refused : Clearing → List ℕ
 refused cleared = refusalText (cleared .verdict)
 
 returns : tie.Need-returns
-unfolding printedText
+unfolding clearPrints
 returns c =
     let told = c .before .before .before .before in
     let is = told .before .before .clear .ensures in
     same-text (if-refused (λ (r : Clearing). r .verdict) is (told .enum-told .given .1) accepted refused) _ (c .before .before .write-refusal .ensures)
 
 returns-2 : tie.Need-returns-2
-unfolding printedText
+unfolding clearPrints
 returns-2 c =
     let told = c .before .before .before .before .before in
     let is = told .before .before .clear .ensures in

@@ -1,0 +1,151 @@
+-- The numbers of an award: no price is negative, and how large each number can be. Assumes nothing.
+use Prim.Native.Nat.{ℕ, zero, suc, _+_, _≤_, _<_}
+use native.Mathlib.Nat.{le-of-suc-le-suc, not-suc-le-zero}
+use native.Mathlib.Omega.{arith}
+use mathlib.Core.Bool.{Bool, true, false, cond, _&&_}
+use mathlib.Core.List.{List, [], _∷_}
+use mathlib.Core.Option.{Option, some, none}
+use mathlib.Core.Path.{_≡_, refl, sym, subst}
+use borrow.Author.Tests.{leb-true}
+use lib.Dec.{leb, ltb}
+use lib.ListN.{length, getD}
+use Rattle.lists.specs.All.{All}
+use Rattle.lists.specs.Every.{every}
+use Rattle.lists.proofs.All.{all-at, all-tested}
+use Rattle.lists.proofs.Slices.{take-most}
+use Rattle.lists.proofs.Removed.{length-removed, all-removed}
+use Rattle.refusal.specs.declared.Verdict.the-variants.{Accepted}
+use Rattle.book.specs.declared.Segment.{Segment}
+use Rattle.book.specs.declared.Book.{Book}
+use Rattle.book.specs.Entries.{BidEntries, BookEntries, bidEntries, bookEntries}
+use Rattle.book.specs.Rules.{bookVerdict}
+use Rattle.book.proofs.Records.{noBid}
+use Rattle.book.proofs.InRange.{mostBlanks, mostCents}
+use Rattle.book.proofs.Bids.{entry-at}
+use Rattle.book.proofs.Accepted.{AcceptedBid, book-accepted, all-accepted, accepted-at}
+use Rattle.supply.specs.Supply.{segment0, supplyOf, suppliesOf, on, offers, numberFrom, segmentNumber}
+use Rattle.supply.proofs.Offers.{supply-small}
+use Rattle.sampling.specs.declared.Band.{Band}
+use Rattle.sampling.specs.Sampling.{printedTable, sampleAbove, sampleOf}
+use Rattle.divisions.specs.Division.{Allocation}
+use Rattle.divisions.specs.Award.{Priced, awardOfBook}
+use Rattle.award.specs.declared.Total.{Total}
+use Rattle.award.specs.declared.Total.the-variants.{Amount, Nothing}
+use Rattle.award.specs.declared.Row.{Row}
+use Rattle.award.specs.Award.{rowOf}
+use Rattle.without.specs.Without.{bookWithout, totalOf, totalWithout}
+use Rattle.clearing.specs.Clearing.{awardRecord, clearOf}
+use Rattle.awardtheorems.specs.Awarded.{rowAt, awarded}
+use Rattle.awardtheorems.proofs.Answers.{cleared}
+use Rattle.awardtheorems.proofs.Counts.{few-bids, bids-within, bids-counted}
+use Rattle.awardtheorems.proofs.Costs.{UpTo, price-up-to, mostTotal, award-up-to}
+use Rattle.awardtheorems.proofs.Cleared.{award-of-book, no-other-cheaper, row-is}
+
+either-small : (t : Bool) (m n most : ℕ) → m ≤ most → n ≤ most → cond t m n ≤ most
+either-small true m n most h k = h
+either-small false m n most h k = k
+
+-- where the first segment has the number n, the last has n and as many more as follow the first
+number-small : (n : ℕ) (s : Segment) (ss : List Segment) (r : ℕ) → numberFrom n (s ∷ ss) r ≤ n + length ss
+unfolding numberFrom
+number-small n s [] r = either-small (on s r) n 0 (n + 0) (omega arith) (omega arith)
+number-small n s (next ∷ ss) r =
+    either-small (on s r) n (numberFrom (n + 1) (next ∷ ss) r) (n + length (next ∷ ss)) (omega arith) (omega (arith, number-small (n + 1) next ss r))
+
+sample-small : (most before : ℕ) (bands : List Band) (q : ℕ) → All (λ (b : Band). leb (b .sample) most ≡ true) bands → sampleAbove before bands q ≤ most
+unfolding sampleAbove
+sample-small most before [] q h = omega arith
+sample-small most before (b ∷ bs) q h =
+    either-small (ltb before q && leb q (b .highest)) (b .sample) (sampleAbove (b .highest) bs q) most (leb-true (b .sample) most (h .0))
+    (sample-small most (b .highest) bs q (h .1))
+
+printed-small : (q : ℕ) → sampleOf printedTable q ≤ 1250
+unfolding sampleOf printedTable every
+printed-small q = sample-small 1250 0 printedTable q (all-tested (λ (b : Band). leb (b .sample) 1250) printedTable refl)
+
+-- what a bidder of an allocation is given, it offers
+offered-at : (bids : List BidEntries) (rs : List ℕ) (d : BidEntries) → Allocation (suppliesOf bids) rs → (i : ℕ) → i < length bids
+    → offers (supplyOf (getD bids i d)) (getD rs i 0) ≡ true
+offered-at [] rs d a i h = absurd (not-suc-le-zero h)
+offered-at (b ∷ bs) [] d a i h = absurd a
+offered-at (b ∷ bs) (r ∷ rs) d a zero h = a .0
+offered-at (b ∷ bs) (r ∷ rs) d a (suc i) h = offered-at bs rs d (a .1) i (le-of-suc-le-suc h)
+
+-- a total without a bidder, where it is an amount
+abbrev pub TotalUpTo : ℕ → Total → Type 0
+TotalUpTo most (Amount cents) = UpTo most (cents .0)
+TotalUpTo most Nothing = Unit {0}
+
+-- the numbers of a row: no amount is negative
+pub record RowUpTo (row : Row) : Type 0 where
+  pub bidder : row .bidder ≤ 9999
+  pub segment : row .segment ≤ 6
+  pub quantity : row .quantity .0 ≤ mostBlanks
+  pub price : UpTo mostCents (row .price .0)
+  pub sample : row .sample .0 ≤ 1250
+  pub without : TotalUpTo mostTotal (row .without)
+
+row-up-to : (b : BidEntries) (r : ℕ) (t : Total) → AcceptedBid b → length (b .segments) ≤ 6 → offers (supplyOf b) r ≡ true → TotalUpTo mostTotal t
+    → RowUpTo (rowOf b r t)
+unfolding rowOf segmentNumber
+row-up-to b r t a few o total = record {
+  bidder = a .bidder-high;
+  segment = omega (arith, number-small 0 segment0 (b .segments) r);
+  quantity = supply-small b (a .ranges) r o .quantity;
+  price = price-up-to b r a o;
+  sample = printed-small r;
+  without = total;
+}
+
+-- the total of the bids left
+total-up-to : (b : BookEntries) → All AcceptedBid (b .bids) → length (b .bids) ≤ 8 → TotalUpTo mostTotal (totalOf (awardOfBook b))
+total-up-to b bids few = go (awardOfBook b) refl
+  where
+    go : (o : Option Priced) → awardOfBook b ≡ o → TotalUpTo mostTotal (totalOf o)
+    go none e = tt
+    go (some award) e = award-up-to b bids few award (award-of-book b award e)
+
+module _ (b : BookEntries) (bids : All AcceptedBid (b .bids)) (few : length (b .bids) ≤ 8) where
+  without-up-to : (i : ℕ) → TotalUpTo mostTotal (totalWithout b i)
+  unfolding totalWithout bookWithout
+  without-up-to i = total-up-to (bookWithout i b) (all-removed AcceptedBid i (b .bids) bids) (omega (arith, length-removed i (b .bids)))
+
+module _ (book : Book) (held : length (book .bids) ≡ 8) (accepted : clearOf (bookEntries book) .verdict ≡ Accepted) where
+  abbrev b : BookEntries
+  b = bookEntries book
+
+  is-accepted : bookVerdict b ≡ Accepted
+  is-accepted = cleared b accepted .accepted
+
+  few : length (b .bids) ≤ 8
+  few = omega (arith, few-bids b is-accepted, bids-counted book held is-accepted)
+
+  bids : All AcceptedBid (b .bids)
+  bids = all-accepted b is-accepted
+
+  -- the demand, the total and every row
+  pub demand-up-to : clearOf b .award .demand .0 ≤ mostBlanks
+  unfolding awardRecord
+  demand-up-to = rw (cleared b accepted .answer) (book-accepted b is-accepted .demand-high)
+
+  pub total-from-zero : UpTo mostTotal (clearOf b .award .total .0)
+  total-from-zero = award-up-to b bids few (awarded (clearOf b .award)) (no-other-cheaper book held accepted)
+
+  segments-few : (i : ℕ) → i < b .count → length (getD (b .bids) i (bidEntries noBid) .segments) ≤ 6
+  segments-few i h =
+      let within = bids-within book held is-accepted in
+      let bid = getD (book .bids) i noBid in
+      let a : AcceptedBid (bidEntries bid) = accepted-at (book .bids) (book .count) within bids i h in
+      let short = take-most (bid .count) (bid .segments) .0 in
+      rw (entry-at (book .bids) (book .count) within i h) (omega (arith, a .count-high, short))
+
+  pub rows-up-to : (i : ℕ) → i < b .count → RowUpTo (rowAt (clearOf b .award) i)
+  rows-up-to i h =
+      let bid : BidEntries = getD (b .bids) i (bidEntries noBid) in
+      let within : i < length (b .bids) = omega (arith, bids-counted book held is-accepted) in
+      let quantities = awarded (clearOf b .award) .quantities in
+      let offered = offered-at (b .bids) quantities (bidEntries noBid) (no-other-cheaper book held accepted .division .allocation) i within in
+      let row =
+      row-up-to bid (getD quantities i 0) (totalWithout b i) (all-at AcceptedBid (bidEntries noBid) (b .bids) bids i within) (segments-few i h) offered
+      (without-up-to b bids few i) in
+      subst RowUpTo (sym (row-is book held accepted i h)) row

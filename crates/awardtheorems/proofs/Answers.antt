@@ -1,0 +1,46 @@
+-- What an answer of clearing tells: an accepted one has an award, and beside a refusal stands none. Assumes nothing.
+use Prim.Native.Nat.{ℕ}
+use mathlib.Core.Option.{Option, some, none}
+use mathlib.Core.Path.{_≡_, refl, ap}
+use Rattle.refusal.specs.declared.Rule.{Rule}
+use Rattle.refusal.specs.declared.Rule.the-variants.{NotCovered}
+use Rattle.refusal.specs.declared.Verdict.{Verdict}
+use Rattle.refusal.specs.declared.Verdict.the-variants.{Accepted, Refused}
+use Rattle.book.specs.declared.Book.{Book}
+use Rattle.book.specs.Entries.{BookEntries, bookEntries, SameBook}
+use Rattle.book.specs.Rules.{bookVerdict}
+use Rattle.divisions.specs.Award.{Priced, awardOfBook}
+use Rattle.award.specs.Award.{noAward}
+use Rattle.clearing.specs.declared.Clearing.{Clearing}
+use Rattle.clearing.specs.Clearing.{clearOf}
+use Rattle.clearing.proofs.Answers.{rules-first, no-division, covered, division}
+use Rattle.awardtheorems.proofs.Apart.{accepted-refused}
+
+-- the same book, the same answer
+pub same-clear : (a b : Book) → SameBook a b → clearOf (bookEntries a) ≡ clearOf (bookEntries b)
+same-clear a b e = ap clearOf e
+
+module _ (b : BookEntries) where
+  -- an answer that is accepted has an award
+  pub record Cleared : Type 0 where
+    pub accepted : bookVerdict b ≡ Accepted
+    pub award : Priced
+    pub is-award : awardOfBook b ≡ some award
+    pub answer : clearOf b ≡ covered b award
+
+  pub cleared : clearOf b .verdict ≡ Accepted → Cleared
+  cleared h = go (bookVerdict b) refl (awardOfBook b) refl
+    where
+      go : (v : Verdict) → bookVerdict b ≡ v → (o : Option Priced) → awardOfBook b ≡ o → Cleared
+      go (Refused rule line) e o f = absurd (accepted-refused (clearOf b .verdict) rule line h (ap (λ (c : Clearing). c .verdict) (rules-first b rule line e)))
+      go Accepted e none f = absurd (accepted-refused (clearOf b .verdict) NotCovered 0 h (ap (λ (c : Clearing). c .verdict) (no-division b e f)))
+      go Accepted e (some award) f = record { accepted = e; award = award; is-award = f; answer = division b award e f }
+
+  -- with each refusal the award is all zeros and `none`
+  pub refused-blank : (rule : Rule) (place : ℕ) → clearOf b .verdict ≡ Refused rule place → clearOf b .award ≡ noAward
+  refused-blank rule place h = go (bookVerdict b) refl (awardOfBook b) refl
+    where
+      go : (v : Verdict) → bookVerdict b ≡ v → (o : Option Priced) → awardOfBook b ≡ o → clearOf b .award ≡ noAward
+      go (Refused first line) e o f = ap (λ (c : Clearing). c .award) (rules-first b first line e)
+      go Accepted e none f = ap (λ (c : Clearing). c .award) (no-division b e f)
+      go Accepted e (some award) f = absurd (accepted-refused (clearOf b .verdict) rule place (ap (λ (c : Clearing). c .verdict) (division b award e f)) h)

@@ -1,0 +1,196 @@
+-- Demand 3, of every record that is accepted and of what clearing answers for it. That the record's array of bids has its eight places
+-- is what the language guarantees (`held`). Assumes nothing.
+use Prim.Native.Nat.{ℕ, _-_, _≤_, _<_}
+use native.Mathlib.Omega.{arith}
+use mathlib.Core.List.{List, [], _∷_}
+use mathlib.Core.Logic.{_↔_}
+use mathlib.Core.Option.{Option, some, none}
+use mathlib.Core.Path.{_≡_, refl, sym, ap, _∙_, subst}
+use lib.IntN.{ℤ}
+use lib.ListN.{length, getD, length-map, drop-of-length-le}
+use Rattle.lists.proofs.All.{all-any, all-map}
+use Rattle.lists.proofs.Removed.{removed, map-removed}
+use Rattle.refusal.specs.declared.Rule.the-variants.{NotCovered}
+use Rattle.refusal.specs.declared.Verdict.the-variants.{Accepted, Refused}
+use Rattle.money.specs.Price.{priceOf}
+use Rattle.money.specs.declared.Cents.{Cents}
+use Rattle.book.specs.declared.Book.{Book}
+use Rattle.book.specs.Entries.{BidEntries, BookEntries, bidEntries, bookEntries}
+use Rattle.book.specs.Rules.{bookVerdict}
+use Rattle.book.proofs.Records.{noBid}
+use Rattle.book.proofs.Accepted.{book-accepted, all-accepted}
+use Rattle.supply.specs.Supply.{supplyOf, suppliesOf, on, offers, priceAt}
+use Rattle.supply.specs.Allocation.{bought}
+use Rattle.divisions.specs.Division.{Allocation}
+use Rattle.divisions.specs.Award.{Priced, awardOf, awardOfBook}
+use Rattle.divisions.specs.IsAward.{insideCount}
+use Rattle.divisions.proofs.Without.{SellsNothing, same-award}
+use Rattle.divisions.proofs.Award.{as-many, award-is, no-award-iff}
+use Rattle.choices.proofs.Accepted.{sound-supplies}
+use Rattle.choices.proofs.OneInside.{at-most-one-inside}
+use Rattle.award.specs.declared.Total.the-variants.{Amount, Nothing}
+use Rattle.award.specs.declared.Row.{Row}
+use Rattle.award.specs.Award.{noRow, rowOf}
+use Rattle.clearing.specs.declared.Clearing.{Clearing}
+use Rattle.without.specs.Without.{bookWithout, totalOf, totalWithout}
+use Rattle.clearing.specs.Clearing.{clearOf}
+use Rattle.clearing.proofs.Answers.{no-division, division}
+use Rattle.awardtheorems.specs.OfBook.{DivisionOf, IsAwardOf}
+use Rattle.awardtheorems.specs.Awarded.{rowAt, awarded}
+use Rattle.awardtheorems.proofs.Apart.{accepted-refused, amount-nothing}
+use Rattle.awardtheorems.proofs.Rows.{record-awarded, record-row, record-past}
+use Rattle.awardtheorems.proofs.Answers.{Cleared, cleared}
+use Rattle.awardtheorems.proofs.Counts.{few-bids, bids-counted}
+
+module _ (b : BookEntries) where
+  pub award-of-book : (award : Priced) → awardOfBook b ≡ some award → IsAwardOf b award
+  unfolding awardOfBook
+  award-of-book award e = award-is (b .demand) (suppliesOf (b .bids)) award e
+
+  pub no-award-of-book : (awardOfBook b ≡ none) ↔ ((rs : List ℕ) → DivisionOf b rs → ⊥)
+  unfolding awardOfBook
+  no-award-of-book = no-award-iff (b .demand) (suppliesOf (b .bids))
+
+  -- "not covered" is said exactly when there is no division
+  pub not-covered-iff : bookVerdict b ≡ Accepted → (clearOf b .verdict ≡ Refused NotCovered 0) ↔ ((rs : List ℕ) → DivisionOf b rs → ⊥)
+  not-covered-iff e = (λ h. no-award-of-book .0 (none-of (awardOfBook b) refl h), λ f. ap (λ (c : Clearing). c .verdict) (no-division b e (no-award-of-book .1 f)))
+    where
+      none-of : (o : Option Priced) → awardOfBook b ≡ o → clearOf b .verdict ≡ Refused NotCovered 0 → awardOfBook b ≡ none
+      none-of none f h = f
+      none-of (some award) f h =
+          absurd (accepted-refused (clearOf b .verdict) NotCovered 0 (ap (λ (c : Clearing). c .verdict) (division b award e f)) h)
+
+  -- and an accepted book is covered exactly when there is one
+  pub covered-iff : bookVerdict b ≡ Accepted → (clearOf b .verdict ≡ Accepted) ↔ ((rs : List ℕ) × DivisionOf b rs)
+  covered-iff e = (
+    λ h. let c = cleared b h in (c .award .quantities, award-of-book (c .award) (c .is-award) .division),
+    λ d. some-of (awardOfBook b) refl (d .0) (d .1),
+  )
+    where
+      some-of : (o : Option Priced) → awardOfBook b ≡ o → (rs : List ℕ) → DivisionOf b rs → clearOf b .verdict ≡ Accepted
+      some-of none f rs d = absurd (no-award-of-book .0 f rs d)
+      some-of (some award) f rs d = ap (λ (c : Clearing). c .verdict) (division b award e f)
+
+  -- a total is `none` exactly when there is no division, and else the cost of the award
+  total-none-iff : (totalOf (awardOfBook b) ≡ Nothing) ↔ ((rs : List ℕ) → DivisionOf b rs → ⊥)
+  total-none-iff = (λ h. no-award-of-book .0 (none-of (awardOfBook b) refl h), λ f. ap totalOf (no-award-of-book .1 f))
+    where
+      none-of : (o : Option Priced) → awardOfBook b ≡ o → totalOf (awardOfBook b) ≡ Nothing → awardOfBook b ≡ none
+      none-of none f h = f
+      none-of (some award) f h = absurd (amount-nothing (totalOf (awardOfBook b)) (record { 0 = award .cost }) (ap totalOf f) h)
+
+  total-amount : (cents : ℤ) → totalOf (awardOfBook b) ≡ Amount (record { 0 = cents }) → (award : Priced) × IsAwardOf b award × (award .cost ≡ cents)
+  total-amount cents h = go (awardOfBook b) refl
+    where
+      go : (o : Option Priced) → awardOfBook b ≡ o → (award : Priced) × IsAwardOf b award × (award .cost ≡ cents)
+      go none f = absurd (amount-nothing (totalOf (awardOfBook b)) (record { 0 = cents }) h (ap totalOf f))
+      go (some award) f =
+          let amount : totalOf (awardOfBook b) ≡ Amount (record { 0 = award .cost }) = ap totalOf f in
+          let same : _≡_ {A = Cents} (record { 0 = award .cost }) (record { 0 = cents }) = cc in
+          (award, award-of-book award f, ap (λ (x : Cents). x .0) same)
+
+-- nothing is on segment 0, at price 0
+sells-nothing : (b : BidEntries) → SellsNothing (supplyOf b)
+unfolding offers on priceAt priceOf
+sells-nothing b = record { offered = refl; free = refl }
+
+-- no bids at all have no division
+nobody-sells : (b : BookEntries) (rs : List ℕ) → b .bids ≡ [] → 1 ≤ b .demand → DivisionOf b rs → ⊥
+unfolding bought
+nobody-sells b rs nobody some-demand d = go rs (subst (λ (bs : List BidEntries). Allocation (suppliesOf bs) rs) nobody (d .allocation)) (d .meets)
+  where
+    go : (rs : List ℕ) → Allocation [] rs → bought rs ≡ b .demand → ⊥
+    go [] a e = omega arith
+    go (r ∷ rs) a e = a
+
+module _ (book : Book) (held : length (book .bids) ≡ 8) where
+  abbrev b : BookEntries
+  b = bookEntries book
+
+  abbrev answer : Clearing
+  answer = clearOf b
+
+  module _ (accepted : answer .verdict ≡ Accepted) where
+    c : Cleared b
+    c = cleared b accepted
+
+    is-award : IsAwardOf b (c .award)
+    is-award = award-of-book b (c .award) (c .is-award)
+
+    many : length (c .award .quantities) ≡ length (b .bids)
+    many = as-many (suppliesOf (b .bids)) (c .award .quantities) (is-award .division .allocation) ∙ length-map (b .bids) _
+
+    says : awarded (answer .award) ≡ c .award
+    says =
+        ap (λ (x : Clearing). awarded (x .award)) (c .answer)
+        ∙ record-awarded b (few-bids b (c .accepted)) (bids-counted book held (c .accepted)) (c .award) many
+
+    -- the award is one of the divisions, every other division costs more, or costs the same and gives less to the first bidder at
+    -- whom the two differ; the total is its cost
+    pub no-other-cheaper : IsAwardOf b (awarded (answer .award))
+    no-other-cheaper = subst (IsAwardOf b) (sym says) is-award
+
+    -- the row of each bid is that of what it sells; the rows past the bids are zeros and `none`
+    pub row-is : (i : ℕ) → i < b .count
+        → rowAt (answer .award) i ≡ rowOf (getD (b .bids) i (bidEntries noBid)) (getD (awarded (answer .award) .quantities) i 0) (totalWithout b i)
+    row-is i h =
+        ap (λ (x : Clearing). rowAt (x .award) i) (c .answer)
+        ∙ record-row b (few-bids b (c .accepted)) (bids-counted book held (c .accepted)) (c .award) many (bidEntries noBid) i h
+        ∙ ap (λ (d : Priced). rowOf (getD (b .bids) i (bidEntries noBid)) (getD (d .quantities) i 0) (totalWithout b i)) (sym says)
+
+    pub past-rows : (i : ℕ) → b .count ≤ i → rowAt (answer .award) i ≡ noRow
+    past-rows i h =
+        ap (λ (x : Clearing). rowAt (x .award) i) (c .answer)
+        ∙ record-past b (few-bids b (c .accepted)) (bids-counted book held (c .accepted)) (c .award) many i h
+
+    -- the total shown without a bidder is that of the award of the other bids
+    pub without-is : (i : ℕ) → i < b .count → rowAt (answer .award) i .without ≡ totalOf (awardOfBook (bookWithout i b))
+    unfolding totalWithout rowOf
+    without-is i h = ap (λ (row : Row). row .without) (row-is i h)
+
+    -- and `none` exactly when they have no division
+    pub none-without-iff : (i : ℕ) → i < b .count → (rowAt (answer .award) i .without ≡ Nothing) ↔ ((rs : List ℕ) → DivisionOf (bookWithout i b) rs → ⊥)
+    none-without-iff i h =
+        let (to, from) = total-none-iff (bookWithout i b) in
+        (λ e. to (sym (without-is i h) ∙ e), λ f. without-is i h ∙ from f)
+
+    pub amount-without : (i : ℕ) → i < b .count → (cents : ℤ) → rowAt (answer .award) i .without ≡ Amount (record { 0 = cents })
+        → (award : Priced) × IsAwardOf (bookWithout i b) award × (award .cost ≡ cents)
+    amount-without i h cents e = total-amount (bookWithout i b) cents (sym (without-is i h) ∙ e)
+
+    -- at most one bidder stands strictly inside its segment
+    pub one-inside : insideCount (suppliesOf (b .bids)) (awarded (answer .award) .quantities) ≤ 1
+    unfolding awardOfBook
+    one-inside =
+        let sound = sound-supplies (b .bids) (all-accepted b (c .accepted)) in
+        subst (λ (d : Priced). insideCount (suppliesOf (b .bids)) (d .quantities) ≤ 1) (sym says)
+        (at-most-one-inside (b .demand) (suppliesOf (b .bids)) sound (c .award) (c .is-award))
+
+    -- where no other bid is left, it is `none`
+    nobody-left : b .count ≡ 1 → bookWithout 0 b .bids ≡ []
+    unfolding bookWithout
+    nobody-left one = let l : length (b .bids) ≤ 1 = omega (arith, bids-counted book held (c .accepted)) in drop-of-length-le (b .bids) l
+
+    pub none-without-sole : b .count ≡ 1 → rowAt (answer .award) 0 .without ≡ Nothing
+    unfolding bookWithout
+    none-without-sole one =
+        let some-demand = book-accepted b (c .accepted) .demand-low in
+        none-without-iff 0 (omega arith) .1 (λ rs d. nobody-sells (bookWithout 0 b) rs (nobody-left one) some-demand d)
+
+    -- a bidder who sells nothing has the award's total as its total without
+    left-award : (i : ℕ) → i < b .count → getD (c .award .quantities) i 0 ≡ 0
+        → awardOfBook (bookWithout i b) ≡ some (record { cost = c .award .cost; quantities = removed i (c .award .quantities) })
+    unfolding awardOfBook bookWithout
+    left-award i h e =
+        let supplies = suppliesOf (b .bids) in
+        let bidder : i < length supplies = omega (arith, bids-counted book held (c .accepted), length-map (b .bids) supplyOf) in
+        ap (awardOf (b .demand)) (map-removed supplyOf i (b .bids))
+        ∙ same-award (b .demand) supplies (all-map supplyOf SellsNothing (b .bids) (all-any _ sells-nothing (b .bids))) i bidder (c .award) (c .is-award) e
+
+    pub without-same : (i : ℕ) → i < b .count → rowAt (answer .award) i .quantity .0 ≡ 0
+        → rowAt (answer .award) i .without ≡ Amount (answer .award .total)
+    unfolding rowOf
+    without-same i h e =
+        let sold : getD (awarded (answer .award) .quantities) i 0 ≡ 0 = sym (ap (λ (row : Row). row .quantity .0) (row-is i h)) ∙ e in
+        let none-sold : getD (c .award .quantities) i 0 ≡ 0 = ap (λ (d : Priced). getD (d .quantities) i 0) (sym says) ∙ sold in
+        without-is i h ∙ ap totalOf (left-award i h none-sold) ∙ ap (λ (d : Priced). Amount (record { 0 = d .cost })) (sym says)

@@ -1,0 +1,74 @@
+-- The loop keeps that the bids passed are put one after the other (`put-next`). Assumes nothing.
+use Prim.Native.Nat.{ℕ, _+_, _*_, _-_, _≤_, _<_}
+use native.Mathlib.Omega.{arith}
+use mathlib.Core.Path.{_≡_, refl, sym, ap, _∙_}
+use borrow.Author.Needs.{needs}
+use lib.ListN.{length, getD, take}
+use Rattle.lists.specs.Joined.{joined}
+use Rattle.lists.proofs.Slices.{length-held}
+use Rattle.book.specs.Entries.{bidEntries}
+use Rattle.book.proofs.Records.{noBid}
+use Rattle.book.proofs.Accepted.{AcceptedBid, few-bids, bid-at}
+use Rattle.printer.specs.Written.{Put}
+use Rattle.printer.proofs.Put.{put-none, put-as, put-next}
+use Rattle.bookwriter.proofs.Sizes.{bidLine, bid-lines}
+use Rattle.bookwriter.proofs.bids.put_bids.Statement.{statement}
+use Rattle.bookwriter.proofs.bids.put_bids.Tie as tie
+
+abbrev Inv-loop : tie.InvT-loop
+Inv-loop out₀ at book next₀ i₀ out next i =
+    (i ≤ book .count) × (next ≤ at + 25000 * i) × (length out ≡ length out₀) × Put out₀ at (joined bidLine (take i (book .bids))) out next
+
+abbrev μ-loop : tie.MeasureT-loop
+μ-loop out₀ at book next₀ i₀ out next i = book .count - i
+
+eight : (c : tie.At-loop Inv-loop μ-loop) → length (c .before .before .args .t3 .bids) ≡ 8
+eight c = search (length-held, c .before .before .good)
+
+few : (c : tie.At-loop Inv-loop μ-loop) → c .before .before .args .t3 .count ≤ 8
+few c = few-bids (c .before .before .args .t3) (c .before .before .pre .0) (eight c)
+
+this-bid : (c : tie.In-loop Inv-loop μ-loop)
+    → AcceptedBid (bidEntries (getD (c .before .before .before .args .t3 .bids) (c .before .loop .i) noBid))
+this-bid c =
+    let s = c .before .before .before in
+    bid-at (s .args .t3) (s .pre .0) (eight (c .before)) (c .before .loop .i) (c .loop-test .taken)
+
+loop-holds : tie.Need-loop-holds Inv-loop μ-loop
+loop-holds c = (omega arith, omega arith, refl, put-none _ _)
+
+put-bid-requires : tie.Need-put-bid-requires Inv-loop μ-loop
+put-bid-requires c κs = (this-bid (c .before .before) .count-high, omega (arith, few (c .before .before .before)))
+
+loop-again : tie.Need-loop-again Inv-loop μ-loop
+loop-again c =
+    let p = c .before .before .put-bid in
+    let l = c .before .before .before .before .before .before in
+    let a = l .before .before .args in
+    let at = l .loop in
+    let text = put-next (a .out .now) (a .at) bidLine (a .t3 .bids) (at .i) noBid (at .out) (at .next) (p .last .0) (p .result) in
+    let within : at .i < length (a .t3 .bids) = omega (arith, eight l, few l) in
+    (omega arith, omega (arith, p .ensures .1), p .kept .0 ∙ at .inv .2, text within (at .inv .2) (at .inv .3) (p .ensures .0))
+
+returns : tie.Need-returns Inv-loop μ-loop
+returns c =
+    let a = c .before .before .before .args in
+    let at = c .before .loop in
+    let done : at .i ≡ a .t3 .count = omega arith in
+    put-as _ _ _ _ _ _ (ap (λ n. joined bidLine (take n (a .t3 .bids))) done ∙ sym (bid-lines (a .t3))) (at .inv .3)
+
+pub put-bids-spec : {M : Type 1} → statement M
+put-bids-spec =
+    tie.close
+    (tie.spec
+    Inv-loop
+    μ-loop
+    loop-holds
+    (λ c. omega (arith, few (c .before)))
+    (λ c. omega (arith, few (c .before)))
+    put-bid-requires
+    (λ c. omega (arith, few (c .before .before .before .before .before .before)))
+    (λ c. search needs)
+    loop-again
+    (λ c. c .before .loop .inv .2)
+    returns)

@@ -1,0 +1,12 @@
+-- The parts, one after the other, are the text. Assumes nothing.
+use Rattle.lines.proofs.Together.{together}
+use Rattle.booktext.specs.BookText.{segmentText}
+use Rattle.bookwriter.proofs.bids.segment_line.Statement.{statement}
+use Rattle.bookwriter.proofs.bids.segment_line.Tie as tie
+
+returns : tie.Need-returns
+unfolding segmentText
+returns c = simp together
+
+pub segment-line-spec : {M : Type 1} → statement M
+segment-line-spec = tie.close (tie.spec returns)

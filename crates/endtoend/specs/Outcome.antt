@@ -1,0 +1,67 @@
+-- What a text gets, lent an output with the bytes `out`: one of six outcomes, in the order of the refusals. Each says what holds of the
+-- text, and then the answer and the bytes of the output.
+use Prim.Native.Nat.{ℕ, _≤_, _<_}
+use mathlib.Core.List.{List}
+use mathlib.Core.Path.{_≡_}
+use lib.ListN.{length}
+use Rattle.refusal.specs.declared.Rule.{Rule}
+use Rattle.refusal.specs.declared.Rule.the-variants.{TextLength, Shape, NotCovered, OutputLength}
+use Rattle.refusal.specs.declared.Verdict.{Verdict}
+use Rattle.refusal.specs.declared.Verdict.the-variants.{Accepted, Refused}
+use Rattle.book.specs.Entries.{BookEntries, bookEntries}
+use Rattle.book.specs.Rules.{bookVerdict}
+use Rattle.forms.specs.Shape.{TextOf}
+use Rattle.booktext.specs.BookText.{bookText}
+use Rattle.booktext.specs.WellFormed.{WellFormedBook}
+use Rattle.booktext.specs.Record.{bookRecord}
+use Rattle.printer.specs.Written.{written}
+use Rattle.roundtrip.specs.NotOfShape.{NotOfShape}
+use Rattle.award.specs.declared.Award.{Award}
+use Rattle.sheettext.specs.Sheet.{sheetText, refusalText}
+use Rattle.awardtheorems.specs.OfBook.{DivisionOf}
+use Rattle.tender.specs.FromText.{sheetWritten, sheetOutput, clearPrints}
+use Rattle.endtoend.specs.TheAward.{TheAward}
+
+-- the rules on the book that a text says: those on its record, which holds the first eight bids and six segments beside the text's counts
+abbrev pub textVerdict : BookEntries → Verdict
+textVerdict b = bookVerdict (bookEntries (bookRecord b))
+
+-- t is the text of the book b
+pub record TextSays (t : List ℕ) (b : BookEntries) : Type 0 where
+  pub short : length t ≤ 4096
+  pub text : TextOf WellFormedBook bookText t b
+
+-- t is the text of the accepted book b
+pub record AcceptedText (t : List ℕ) (b : BookEntries) : Type 0 where
+  pub says : TextSays t b
+  pub accepted : textVerdict b ≡ Accepted
+
+module _ (t out : List ℕ) where
+  -- refused: no byte is written, and the output is unchanged
+  abbrev pub NoSheet : Rule → ℕ → Type 0
+  NoSheet rule place = (sheetWritten t (length out) ≡ record { verdict = Refused rule place; bytes = 0 }) × (sheetOutput t out ≡ out)
+
+  -- the sheet of the award, byte for byte, and what was past it
+  abbrev pub SheetOf : Award → Type 0
+  SheetOf a =
+      (sheetWritten t (length out) ≡ record { verdict = Accepted; bytes = length (sheetText a) }) × (sheetOutput t out ≡ written out 0 (sheetText a))
+
+  pub data Outcome : Type 0 where
+    -- 1: it is longer than 4,096 bytes
+    too-long : 4096 < length t → NoSheet TextLength 4096 → Outcome
+    -- 2: no book has this text
+    not-of-shape : (place : ℕ) → NotOfShape t place → NoSheet Shape place → Outcome
+    -- 3 to 8: its book breaks a rule
+    broken : (b : BookEntries) → TextSays t b → (rule : Rule) (line : ℕ) → textVerdict b ≡ Refused rule line → NoSheet rule line → Outcome
+    -- 9: its book has no division
+    not-covered : (b : BookEntries) → AcceptedText t b → ((rs : List ℕ) → DivisionOf b rs → ⊥) → NoSheet NotCovered 0 → Outcome
+    -- 10: the award's sheet is longer than the output
+    output-short : (b : BookEntries) → AcceptedText t b → (a : Award) → TheAward b a → length out < length (sheetText a)
+        → NoSheet OutputLength (length (sheetText a)) → Outcome
+    -- the award's sheet
+    sheet : (b : BookEntries) → AcceptedText t b → (a : Award) → TheAward b a → length (sheetText a) ≤ length out → SheetOf a → Outcome
+
+-- What the program `clear` prints for a text: the sheet of the award, or the line of the refusal that the text gets in every output.
+pub data PrintOutcome (t : List ℕ) : Type 0 where
+  its-sheet : (b : BookEntries) → AcceptedText t b → (a : Award) → TheAward b a → clearPrints t ≡ sheetText a → PrintOutcome t
+  its-refusal : (rule : Rule) (place : ℕ) → ((out : List ℕ) → NoSheet t out rule place) → clearPrints t ≡ refusalText (Refused rule place) → PrintOutcome t

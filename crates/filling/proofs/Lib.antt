@@ -1,4 +1,0 @@
-pub mod Rows
-pub mod Sums
-pub mod Prices
-pub mod Filling

@@ -1,0 +1,4 @@
+pub mod Segments
+pub mod Sums
+pub mod Prices
+pub mod Filling

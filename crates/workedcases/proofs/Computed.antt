@@ -1,0 +1,28 @@
+-- The test of the whole table, computed. Assumes nothing.
+use mathlib.Core.Bool.{true}
+use mathlib.Core.Path.{_≡_, refl}
+use Rattle.lists.specs.Every.{every}
+use Rattle.money.specs.Price.{priceOf}
+use Rattle.forms.specs.Digits.{digitsWithin, digits, signedDigits}
+use Rattle.book.specs.Rules.{segmentInRange, bidInRange, segmentsRise, startNotNegative, bidVerdict, bidsVerdict, bookVerdict}
+use Rattle.booktext.specs.BookText.{segmentText, bidText, bookText}
+use Rattle.supply.specs.Supply.{on, priceAt, numberFrom, segmentNumber}
+use Rattle.sampling.specs.Sampling.{printedTable, sampleAbove, sampleOf}
+use Rattle.divisions.specs.Award.{givesMore, better, pick}
+use Rattle.choices.proofs.Choice.{fits, width, filled}
+use Rattle.choices.proofs.Search.{each, leaf, search}
+use Rattle.award.specs.Award.{rowOf}
+use Rattle.sheettext.specs.Sheet.{totalText, rowText, sheetText, refusalText}
+use Rattle.without.specs.Without.{bookWithout}
+use Rattle.workedcases.specs.Table.{table}
+use Rattle.workedcases.proofs.Books.{books}
+use Rattle.workedcases.proofs.Bytes.{eqBytes}
+use Rattle.workedcases.proofs.Small.{bookSmall}
+use Rattle.workedcases.proofs.Fits.{bookFits}
+use Rattle.workedcases.proofs.Test.{passes, allPass}
+
+pub computed : allPass table books ≡ true
+unfolding table books every priceOf segmentInRange bidInRange segmentsRise startNotNegative bidVerdict bidsVerdict bookVerdict on priceAt numberFrom segmentNumber
+    printedTable sampleAbove sampleOf givesMore better pick fits width filled each leaf search rowOf bookWithout digitsWithin digits signedDigits segmentText bidText
+    bookText totalText rowText sheetText refusalText eqBytes bookSmall bookFits passes allPass
+computed = refl
