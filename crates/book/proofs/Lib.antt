@@ -3,5 +3,5 @@ pub mod InRange
 pub mod Rising
 pub mod Bids
 pub mod Accepted
-pub mod Numbers
+pub mod Refusals
 pub mod Same

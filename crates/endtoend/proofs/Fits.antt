@@ -18,7 +18,8 @@ use Rattle.refusal.specs.declared.Rule.{Rule}
 use Rattle.refusal.specs.declared.Rule.the-variants.{OutputLength}
 use Rattle.refusal.specs.declared.Verdict.{Verdict}
 use Rattle.refusal.specs.declared.Verdict.the-variants.{Accepted, Refused}
-use Rattle.refusal.proofs.Numbers.{at-most-eleven}
+use Rattle.refusal.proofs.Numbers.{two-digits}
+use Rattle.refusal.proofs.Refusals.{never-other}
 use Rattle.refusal.specs.Number.{ruleNumber}
 use Rattle.book.specs.declared.Book.{Book}
 use Rattle.book.specs.Entries.{bookEntries}
@@ -39,7 +40,7 @@ use Rattle.awardtheorems.specs.Awarded.{rowsOf, rowAt}
 use Rattle.awardtheorems.proofs.Costs.{NotNegative, UpTo, mostTotal}
 use Rattle.bookanswers.specs.BookAnswers.{bookOf}
 use Rattle.tender.specs.FromText.{clearText, sheetWritten, clearPrints}
-use Rattle.endtoend.proofs.Places.{UpToNine, up-to-nine}
+use Rattle.endtoend.proofs.Places.{BeforeOutput, before-output}
 use Rattle.endtoend.proofs.ClearedText.{the-award, cleared-book, was-read, record-cleared, eight-bids}
 use Rattle.awardtheorems.proofs.Amounts.{TotalUpTo, RowUpTo, demand-up-to, total-from-zero, rows-up-to}
 
@@ -117,7 +118,7 @@ module _ (t : List ℕ) where
   -- the line of a refusal has at most 18 bytes
   refusal-short : (rule : Rule) (place : ℕ) → place ≤ 4096 → length (refusalText (Refused rule place)) ≤ 18
   refusal-short rule place h =
-      let number = length-below 1 (ruleNumber rule) (omega (arith, at-most-eleven rule)) in
+      let number = length-below 1 (ruleNumber rule) (omega (arith, two-digits rule .1)) in
       let digits = length-below 3 place (omega arith) in
       omega (arith, refusal-size (Refused rule place))
 
@@ -129,7 +130,7 @@ module _ (t : List ℕ) where
       go : (v : Verdict) → clearText t .verdict ≡ v → length (clearPrints t) ≤ 600
       go Accepted e = rw e (omega (arith, sheet-fits e))
       go (Refused rule place) e =
-          let told : UpToNine (Refused rule place) = subst UpToNine e (up-to-nine t) in
+          let told : BeforeOutput (Refused rule place) = subst BeforeOutput e (before-output t) in
           rw e (omega (arith, refusal-short rule place (told .1)))
 
   same-verdict : (out : List ℕ) → 600 ≤ length out → sheetWritten t (length out) .verdict ≡ clearText t .verdict
@@ -142,5 +143,5 @@ module _ (t : List ℕ) where
 
   pub never-short : (out : List ℕ) → 600 ≤ length out → (place : ℕ) → sheetWritten t (length out) .verdict ≡ Refused OutputLength place → ⊥
   never-short out enough place e =
-      let told : UpToNine (Refused OutputLength place) = subst UpToNine (sym (same-verdict out enough) ∙ e) (up-to-nine t) in
-      omega (arith, told .0)
+      let told : BeforeOutput (Refused OutputLength place) = subst BeforeOutput (sym (same-verdict out enough) ∙ e) (before-output t) in
+      never-other OutputLength (told .0)

@@ -1,2 +1,3 @@
 pub mod Firsts
+pub mod Refusals
 pub mod Numbers

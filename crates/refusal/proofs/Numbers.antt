@@ -1,12 +1,15 @@
--- No two rules have the same number, so that number and place tell a verdict; the numbers go to 11. Assumes nothing.
-use Prim.Native.Nat.{ℕ, _≤_}
+-- Number and place tell a verdict: no two rules have the same number, none has 0, and each has at most two digits. Assumes nothing.
+use Prim.Native.Nat.{ℕ, _≤_, _<_}
 use native.Mathlib.Omega.{arith}
 use mathlib.Core.Bool.{cond}
-use mathlib.Core.Path.{_≡_, refl, sym, ap, _∙_}
+use mathlib.Core.Logic.{_↔_}
+use mathlib.Core.Path.{_≡_, refl, sym, ap, ap₂, _∙_}
 use lib.Dec.{eqb}
 use Rattle.refusal.specs.declared.Rule.{Rule}
 use Rattle.refusal.specs.declared.Rule.the-variants.{TextLength, Shape, BidCount, SegmentCount, Range, BidderOrder, SegmentOrder, NegativePrice, NotCovered, OutputLength, SplitQuantity}
-use Rattle.refusal.specs.Number.{ruleNumber}
+use Rattle.refusal.specs.declared.Verdict.{Verdict}
+use Rattle.refusal.specs.declared.Verdict.the-variants.{Accepted, Refused}
+use Rattle.refusal.specs.Number.{ruleNumber, numberOf, placeOf}
 
 -- the rule of a number
 ruleOf : ℕ → Rule
@@ -39,15 +42,25 @@ back SplitQuantity = refl
 pub distinct-numbers : (a b : Rule) → ruleNumber a ≡ ruleNumber b → a ≡ b
 distinct-numbers a b e = sym (back a) ∙ ap ruleOf e ∙ back b
 
-pub at-most-eleven : (rule : Rule) → ruleNumber rule ≤ 11
-at-most-eleven TextLength = omega arith
-at-most-eleven Shape = omega arith
-at-most-eleven BidCount = omega arith
-at-most-eleven SegmentCount = omega arith
-at-most-eleven Range = omega arith
-at-most-eleven BidderOrder = omega arith
-at-most-eleven SegmentOrder = omega arith
-at-most-eleven NegativePrice = omega arith
-at-most-eleven NotCovered = omega arith
-at-most-eleven OutputLength = omega arith
-at-most-eleven SplitQuantity = omega arith
+pub two-digits : (rule : Rule) → (1 ≤ ruleNumber rule) × (ruleNumber rule < 100)
+two-digits TextLength = (omega arith, omega arith)
+two-digits Shape = (omega arith, omega arith)
+two-digits BidCount = (omega arith, omega arith)
+two-digits SegmentCount = (omega arith, omega arith)
+two-digits Range = (omega arith, omega arith)
+two-digits BidderOrder = (omega arith, omega arith)
+two-digits SegmentOrder = (omega arith, omega arith)
+two-digits NegativePrice = (omega arith, omega arith)
+two-digits NotCovered = (omega arith, omega arith)
+two-digits OutputLength = (omega arith, omega arith)
+two-digits SplitQuantity = (omega arith, omega arith)
+
+-- For every entry that answers a verdict: its contract says which verdict is given, and that is the same as to say number and place.
+pub told-by-number : (v w : Verdict) → (v ≡ w) ↔ ((numberOf v ≡ numberOf w) × (placeOf v ≡ placeOf w))
+told-by-number v w = (λ e. (ap numberOf e, ap placeOf e), λ h. go v w (h .0) (h .1))
+  where
+    go : (v w : Verdict) → numberOf v ≡ numberOf w → placeOf v ≡ placeOf w → v ≡ w
+    go Accepted Accepted e f = refl
+    go Accepted (Refused rule place) e f = absurd (omega (arith, two-digits rule .0))
+    go (Refused rule place) Accepted e f = absurd (omega (arith, two-digits rule .0))
+    go (Refused rule place) (Refused other at) e f = ap₂ (λ (r : Rule) (n : ℕ). Refused r n) (distinct-numbers rule other e) f

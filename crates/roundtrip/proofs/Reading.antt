@@ -13,7 +13,8 @@ use Rattle.refusal.specs.declared.Verdict.the-variants.{Accepted, Refused}
 use Rattle.refusal.proofs.Firsts.{refused-not}
 use Rattle.book.specs.Entries.{BookEntries, bookEntries}
 use Rattle.book.specs.Rules.{bookVerdict}
-use Rattle.book.proofs.Numbers.{book-numbers}
+use Rattle.refusal.proofs.Refusals.{Other, never-other}
+use Rattle.book.proofs.Refusals.{record-rule}
 use Rattle.forms.specs.Shape.{TextOf, Begins, Longest, Reading, of-shape, not-of-shape, answer}
 use Rattle.forms.proofs.Whole.{one-meaning}
 use Rattle.booktext.specs.BookText.{bookText}
@@ -58,7 +59,7 @@ accepted-as t e = go (read-answered t)
 
 -- no rule for a record is the rule for a text's shape
 not-shape : (b : BookEntries) (n : ℕ) → bookVerdict b ≡ Refused Shape n → ⊥
-not-shape b n e = omega (arith, book-numbers b Shape n e .0)
+not-shape b n e = never-other Shape (record-rule (Other Shape) (refl, (refl, (refl, (refl, (refl, (refl, tt)))))) b Shape n e)
 
 pub refused-place : (t : List ℕ) (n : ℕ) → readOf t .verdict ≡ Refused Shape n → NotOfShape t n
 unfolding answer bookAnswer
