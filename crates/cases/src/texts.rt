@@ -26,8 +26,7 @@ pub fn answer(line: &[u8], text: &[u8], quantities: &[u64], out: &mut [u8]) {
 // What the program `clear` prints for it.
 fn printed(text: &[u8]) {
     let mut out = [b'.'; 600];
-    let w = tender::print(text, &mut out);
-    let end = io::count((w.bytes % 65_536) as isize, &out);
+    let end = printout::print(text, &mut out);
     io::write_all(1, &out[..end]);
 }
 

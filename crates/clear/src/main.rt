@@ -1,8 +1,4 @@
 // Reads a bid book from standard input and prints its award sheet, or the one line of the refusal.
-ghost use mathlib.Core.Path.{_≡_};
-ghost use Prim.Native.Nat.{_≤_};
-ghost use lib.ListN.{length, take};
-ghost use Rattle.tender.specs.FromText.{clearPrints};
 use input::Input;
 use libc::STDOUT_FILENO;
 
@@ -19,18 +15,8 @@ fn main() {
 
 fn print(text: &[u8]) {
     let mut out = [0u8; 600];
-    let n = answer(text, &mut out);
+    let n = printout::print(text, &mut out);
     put(&out[..n]);
-}
-
-// Puts what is to be printed for a text at the beginning of the output, and answers how many bytes it has: 600 bytes hold it.
-fn answer(text: &[u8], out: &mut [u8]) -> usize
-    requires { ⌜ length (now out) ≡ 600 ⌝ }
-    ensures { λ r. ⌜ take r (now (out .exit)) ≡ clearPrints (now (text .entry)) ⌝ }
-    ensures { λ r. ⌜ r ≤ length (now (out .exit)) ⌝ }
-{
-    let written = tender::print(text, out);
-    written.bytes as usize
 }
 
 fn put(sheet: &[u8]) {

@@ -53,7 +53,7 @@ module _ (t : List ℕ) (b : BookEntries) (is : AcceptedText t b) where
   read-as-book : readOf t ≡ record { verdict = Accepted; book = bookRecord b }
   read-as-book = sym (read-text t (is .says .short) b (is .says .text)) ∙ accepted-answer b (is .accepted)
 
-  same-book : bookOf t ≡ b
+  pub same-book : bookOf t ≡ b
   same-book = ap (λ (r : BookRead). bookEntries (r .book)) read-as-book ∙ entries-of-record b (is .says .text .well-formed) (is .accepted)
 
   -- by the rules on the book itself too
@@ -66,12 +66,13 @@ module _ (t : List ℕ) (b : BookEntries) (is : AcceptedText t b) where
   told : {c : Clearing} → clearOf b ≡ c → clearText t .verdict ≡ c .verdict
   told e = ap (λ (x : Clearing). x .verdict) (cleared-as-book ∙ e)
 
-  pub gets-9 : ((rs : List ℕ) → DivisionOf b rs → ⊥) → (out : List ℕ) → NoSheet t out NotCovered 0
-  gets-9 uncovered out =
-      let verdict = not-covered-iff b book-passes .1 uncovered in
-      no-sheet t out NotCovered 0 (ap (λ (c : Clearing). c .verdict) cleared-as-book ∙ verdict)
+  pub uncovered : ((rs : List ℕ) → DivisionOf b rs → ⊥) → clearText t .verdict ≡ Refused NotCovered 0
+  uncovered no-division = ap (λ (c : Clearing). c .verdict) cleared-as-book ∙ not-covered-iff b book-passes .1 no-division
 
-  covered : (rs : List ℕ) → DivisionOf b rs → clearText t .verdict ≡ Accepted
+  pub gets-9 : ((rs : List ℕ) → DivisionOf b rs → ⊥) → (out : List ℕ) → NoSheet t out NotCovered 0
+  gets-9 no-division out = no-sheet t out NotCovered 0 (uncovered no-division)
+
+  pub covered : (rs : List ℕ) → DivisionOf b rs → clearText t .verdict ≡ Accepted
   covered rs d = ap (λ (c : Clearing). c .verdict) cleared-as-book ∙ covered-iff b book-passes .1 (rs, d)
 
   -- where there is a division there is an award

@@ -5,3 +5,4 @@ pub mod Given
 pub mod Places
 pub mod Fits
 pub mod Prints
+pub mod Exactly

@@ -36,6 +36,13 @@ pub record AcceptedText (t : List ℕ) (b : BookEntries) : Type 0 where
   pub says : TextSays t b
   pub accepted : textVerdict b ≡ Accepted
 
+-- t is the text of an accepted book that has a division, or of one that has none
+abbrev pub CoveredText : List ℕ → BookEntries → Type 0
+CoveredText t b = AcceptedText t b × ((rs : List ℕ) × DivisionOf b rs)
+
+abbrev pub UncoveredText : List ℕ → BookEntries → Type 0
+UncoveredText t b = AcceptedText t b × ((rs : List ℕ) → DivisionOf b rs → ⊥)
+
 module _ (t out : List ℕ) where
   -- refused: no byte is written, and the output is unchanged
   abbrev pub NoSheet : Rule → ℕ → Type 0

@@ -3,12 +3,10 @@
 
 // The modules are private: the functions named here are the entries. Those of `bookanswers` clear nothing.
 mod awards;
-mod prints;
 mod sheets;
 
 pub use awards::clear;
 pub use bookanswers::price_split;
 pub use bookanswers::room;
 pub use bookanswers::write;
-pub use prints::print;
 pub use sheets::sheet;

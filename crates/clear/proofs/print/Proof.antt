@@ -1,4 +1,4 @@
--- `answer` gives no more bytes than the output has, so that many can be lent.
+-- `printout::print` gives no more bytes than the output has, so that many can be lent.
 use mathlib.Core.Path.{sym}
 use lib.Seq.{length-take-le}
 use borrow.Author.Needs.{needs}
@@ -6,7 +6,7 @@ use Rattle.clear.proofs.print.Statement.{statement}
 use Rattle.clear.proofs.print.Tie as tie
 
 array-share-prefix-out : tie.Need-array-share-prefix-out
-array-share-prefix-out c = c .before .answer .ensures .1
+array-share-prefix-out c = c .before .print .ensures .1
 
 slice-aggregate-put : tie.Need-slice-aggregate-put
 slice-aggregate-put c = sym (length-take-le _ _ (array-share-prefix-out (c .before)))

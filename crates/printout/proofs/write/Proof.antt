@@ -1,13 +1,14 @@
 -- The line of the refusal is written where the text is refused, else the sheet: each is the text that is printed.
 use Prim.Native.Nat.{ℕ}
 use mathlib.Core.List.{List}
+use mathlib.Core.Path.{sym, ap, _∙_}
 use borrow.Author.Needs.{needs}
 use Rattle.sheettext.specs.Sheet.{sheetText, refusalText}
 use Rattle.clearing.specs.declared.Clearing.{Clearing}
 use Rattle.tender.specs.FromText.{clearPrints}
 use Rattle.bookanswers.proofs.Answers.{if-refused, if-accepted, same-text}
-use Rattle.tender.proofs.prints.print.Statement.{statement}
-use Rattle.tender.proofs.prints.print.Tie as tie
+use Rattle.printout.proofs.write.Statement.{statement}
+use Rattle.printout.proofs.write.Tie as tie
 
 abbrev accepted : Clearing → List ℕ
 accepted cleared = sheetText (cleared .award)
@@ -18,19 +19,21 @@ refused cleared = refusalText (cleared .verdict)
 returns : tie.Need-returns
 unfolding clearPrints
 returns c =
-    let told = c .before .before .before .before in
+    let written = c .before .before in
+    let told = written .before .before .before in
     let is = told .before .before .clear .ensures in
-    same-text (if-refused (λ (r : Clearing). r .verdict) is (told .enum-told .given .1) accepted refused) _ (c .before .before .write-refusal .ensures)
+    let refusal = told .verdict .given .1 in
+    same-text (ap refusalText (sym refusal) ∙ if-refused (λ (r : Clearing). r .verdict) is refusal accepted refused) _ (written .write-refusal .ensures)
 
 returns-2 : tie.Need-returns-2
 unfolding clearPrints
 returns-2 c =
     let told = c .before .before .before .before .before in
     let is = told .before .before .clear .ensures in
-    same-text (if-accepted (λ (r : Clearing). r .verdict) is (told .enum-told2 .given .1) accepted refused) _ (c .before .before .write .ensures)
+    same-text (if-accepted (λ (r : Clearing). r .verdict) is (told .enum-told .given .1) accepted refused) _ (c .before .before .write .ensures)
 
-pub print-spec : {M : Type 1} → statement M
-print-spec =
+pub write-spec : {M : Type 1} → statement M
+write-spec =
     tie.close
     (tie.spec
     (λ c κs. search needs) (λ c. search needs) (λ c κs. search needs) (λ c. search needs)

@@ -1,0 +1,97 @@
+-- Of a cleared text, and of its award as numbers for C: refusal 9 exactly when its book has no division, an award exactly when it has
+-- one. Assumes nothing.
+use Prim.Native.Nat.{ℕ, _*_, _≤_}
+use native.Mathlib.Omega.{arith}
+use mathlib.Core.Bool.{Bool, true, false}
+use mathlib.Core.List.{List, [], _∷_}
+use mathlib.Core.Logic.{_↔_}
+use mathlib.Core.Path.{_≡_, refl, sym, ap, _∙_, subst}
+use borrow.Author.Tests.{leb-true, le-leb}
+use lib.Dec.{leb}
+use Rattle.refusal.specs.Checks.{unless, firstOf}
+use Rattle.refusal.specs.Number.{numberOf}
+use Rattle.refusal.specs.declared.Rule.the-variants.{NotCovered, OutputLength}
+use Rattle.refusal.specs.declared.Verdict.{Verdict}
+use Rattle.refusal.specs.declared.Verdict.the-variants.{Accepted, Refused}
+use Rattle.refusal.proofs.Firsts.{refused-not}
+use Rattle.refusal.proofs.Refusals.{Other, never-other}
+use Rattle.book.specs.Entries.{BookEntries, bookEntries}
+use Rattle.book.proofs.Refusals.{record-rule}
+use Rattle.booktext.specs.Record.{bookRecord}
+use Rattle.output.specs.declared.TextWritten.{TextWritten}
+use Rattle.awardtheorems.specs.Awarded.{awarded}
+use Rattle.bookanswers.specs.BookAnswers.{bookOf}
+use Rattle.tender.specs.FromText.{clearText, sheetWritten}
+use Rattle.awardnumbers.specs.Numbers.{awardVerdict}
+use Rattle.endtoend.specs.Outcome.{CoveredText, UncoveredText, Outcome, too-long, not-of-shape, broken, not-covered, output-short, sheet}
+use Rattle.endtoend.proofs.ClearedText.{accepted-text, was-read, its-award}
+use Rattle.endtoend.proofs.Whole.{no-sheet, whole}
+use Rattle.endtoend.proofs.Given.{same-book, covered, uncovered}
+
+module _ (t : List ℕ) where
+  -- refusal 9 is the outcome of a book without a division, and of nothing else
+  its-nine : clearText t .verdict ≡ Refused NotCovered 0 → (b : BookEntries) × UncoveredText t b
+  its-nine e = go (whole t [])
+    where
+      nine : sheetWritten t 0 .verdict ≡ Refused NotCovered 0
+      nine = ap (λ (w : TextWritten). w .verdict) (no-sheet t [] NotCovered 0 e .0)
+
+      told : {w : TextWritten} → sheetWritten t 0 ≡ w → w .verdict ≡ Refused NotCovered 0
+      told f = sym (ap (λ (w : TextWritten). w .verdict) f) ∙ nine
+
+      go : Outcome t [] → (b : BookEntries) × UncoveredText t b
+      go (too-long h f) = absurd (omega (arith, ap numberOf (told (f .0))))
+      go (not-of-shape place h f) = absurd (omega (arith, ap numberOf (told (f .0))))
+      go (broken b says rule line g f) =
+          absurd (never-other NotCovered
+          (record-rule (Other NotCovered) (refl, (refl, (refl, (refl, (refl, (refl, tt)))))) (bookEntries (bookRecord b)) NotCovered 0 (g ∙ told (f .0))))
+      go (not-covered b is none f) = (b, (is, none))
+      go (output-short b is a award h f) = absurd (omega (arith, ap numberOf (told (f .0))))
+      go (sheet b is a award h f) = absurd (omega (arith, ap numberOf (told (f .0))))
+
+  pub nine-iff : (clearText t .verdict ≡ Refused NotCovered 0) ↔ ((b : BookEntries) × UncoveredText t b)
+  nine-iff = (its-nine, λ (b, (is, none)). uncovered t b is none)
+
+  -- what was read is a book with the division that the award is
+  its-book : clearText t .verdict ≡ Accepted → CoveredText t (bookOf t)
+  its-book e = (accepted-text t (was-read t e), (awarded (clearText t .award) .quantities, its-award t e .best .division))
+
+  pub award-iff : (clearText t .verdict ≡ Accepted) ↔ ((b : BookEntries) × CoveredText t b)
+  award-iff = (λ e. (bookOf t, its-book e), λ (b, (is, (rs, d))). covered t b is rs d)
+
+-- for C, where the lent list has `size` numbers: too short a list is refused after 9, and else there is an award
+module _ (t : List ℕ) (size : ℕ) where
+  abbrev count : ℕ
+  count = clearText t .award .count
+
+  cleared-first : (v w : Verdict) → numberOf w ≡ 9 → (fits : Bool) → firstOf (v ∷ unless fits OutputLength (56 * count) ∷ []) ≡ w → v ≡ w
+  cleared-first (Refused rule place) w h fits e = e
+  cleared-first Accepted w h true e = absurd (omega (arith, ap numberOf e))
+  cleared-first Accepted w h false e = absurd (omega (arith, ap numberOf e))
+
+  pub numbers-nine-iff : (awardVerdict t size ≡ Refused NotCovered 0) ↔ ((b : BookEntries) × UncoveredText t b)
+  unfolding awardVerdict
+  numbers-nine-iff = (
+    λ e. nine-iff t .0 (cleared-first (clearText t .verdict) (Refused NotCovered 0) refl (leb (7 * count) size) e),
+    λ h. let nine = nine-iff t .1 h in rw nine,
+  )
+
+  both-pass : (v : Verdict) (fits : Bool) → firstOf (v ∷ unless fits OutputLength (56 * count) ∷ []) ≡ Accepted → (v ≡ Accepted) × (fits ≡ true)
+  both-pass (Refused rule place) fits e = refused-not e
+  both-pass Accepted true e = (refl, refl)
+  both-pass Accepted false e = refused-not e
+
+  pub numbers-award-iff : (awardVerdict t size ≡ Accepted) ↔ ((b : BookEntries) × CoveredText t b × (7 * b .count ≤ size))
+  unfolding awardVerdict
+  numbers-award-iff = (to, from)
+    where
+      to : awardVerdict t size ≡ Accepted → (b : BookEntries) × CoveredText t b × (7 * b .count ≤ size)
+      to e =
+          let (accepted, fits) = both-pass (clearText t .verdict) (leb (7 * count) size) e in
+          (bookOf t, its-book t accepted, subst (λ (n : ℕ). 7 * n ≤ size) (its-award t accepted .count) (leb-true (7 * count) size fits))
+
+      from : (b : BookEntries) × CoveredText t b × (7 * b .count ≤ size) → awardVerdict t size ≡ Accepted
+      from (b, is, h) =
+          let accepted = award-iff t .1 (b, is) in
+          let counted : count ≡ b .count = its-award t accepted .count ∙ ap (λ (x : BookEntries). x .count) (same-book t b (is .0)) in
+          rw (accepted, le-leb (7 * count) size (subst (λ (n : ℕ). 7 * n ≤ size) (sym counted) h))

@@ -1,0 +1,14 @@
+-- 600 bytes hold what is printed for every text, so that all of it is written.
+use borrow.Author.Needs.{needs}
+use Rattle.printout.proofs.Printed.{all-printed}
+use Rattle.printout.proofs.print.Statement.{statement}
+use Rattle.printout.proofs.print.Tie as tie
+
+returns : tie.Need-returns
+returns c =
+    let p = c .before .before .write in
+    let s = c .before .before .before .before .before .before in
+    all-printed (s .args .text .now) (s .args .out .now) (s .pre) (p .result) (p .last .1 .0) (p .kept .1 .0) (p .ensures)
+
+pub print-spec : {M : Type 1} → statement M
+print-spec = tie.close (tie.spec (λ c κs. search needs) (λ c. search needs) returns)

@@ -1,0 +1,34 @@
+// What the programs print for a text. It is no entry: it answers how many bytes are to be printed and no verdict, so what has to know
+// whether a text is refused calls `tender::sheet`.
+ghost use mathlib.Core.Path.{_≡_};
+ghost use Prim.Native.Nat.{_≤_};
+ghost use lib.ListN.{length, take};
+ghost use Rattle.refusal.specs.declared.Verdict.the-variants.{Accepted};
+ghost use Rattle.output.specs.Writing.{writtenOf, outputAfter};
+ghost use Rattle.tender.specs.FromText.{clearPrints};
+use output::TextWritten;
+use refusal::Verdict;
+
+// The sheet, or the line of the refusal.
+fn write(text: &[u8], out: &mut [u8]) -> TextWritten
+    ensures { λ r. ⌜ r ≡ writtenOf Accepted (clearPrints (now (text .entry))) (length (now (out .entry))) ⌝ }
+    ensures { λ r. ⌜ now (out .exit) ≡ outputAfter Accepted (clearPrints (now (text .entry))) (now (out .entry)) ⌝ }
+{
+    let cleared = tender::clear(text);
+    let verdict = cleared.verdict;
+    if let Verdict::Refused(rule, place) = verdict {
+        return sheet::write_refusal(rule, place, out);
+    }
+    let award = cleared.award;
+    sheet::write(award, out)
+}
+
+// Puts what is to be printed for a text at the beginning of the output, and answers how many bytes it has: 600 bytes hold it.
+pub fn print(text: &[u8], out: &mut [u8]) -> usize
+    requires { ⌜ length (now out) ≡ 600 ⌝ }
+    ensures { λ r. ⌜ take r (now (out .exit)) ≡ clearPrints (now (text .entry)) ⌝ }
+    ensures { λ r. ⌜ r ≤ length (now (out .exit)) ⌝ }
+{
+    let written = write(text, out);
+    written.bytes as usize
+}
