@@ -7,11 +7,15 @@ use Rattle.awardnumbers.proofs.Awards.{refused-before, too-short, in-fu
 use Rattle.awardnumbers.proofs.award.Statement.{statement}
 use Rattle.awardnumbers.proofs.award.Tie as tie
 
+-- the call, seen from where the text has been cleared
+abbrev start : tie.After-clear → tie.Start
+start c = c .before .before .before
+
 returns : tie.Need-returns
 returns c =
     let told = c .before .enum-told .given in
     let clear = c .before .before .before .clear in
-    let a = c .before .before .before .before .before .before .args in
+    let a = start (c .before .before .before) .args in
     refused-before (a .text .now) (a .rows .now) (clear .result) (clear .ensures) (told .0 .0) (told .0 .1 .0) (told .1) (c .refused .result) (c .refused .ensures)
 
 few-rows : (c : tie.After-enum-told2) → c .before .before .clear .result .award .count ≤ 8
@@ -21,17 +25,18 @@ returns-2 : tie.Need-returns-2
 returns-2 c =
     let told = c .before .before .before in
     let clear = told .before .before .clear in
-    let a = told .before .before .before .before .before .args in
+    let a = start (told .before .before) .args in
     too-short (a .text .now) (a .rows .now) (clear .result) (clear .ensures) (told .enum-told2 .given .1) (c .before .if1 .taken)
     (c .refused2 .result) (c .refused2 .ensures)
 
 returns-3 : tie.Need-returns-3
 returns-3 c =
-    let put = c .before .before .before .before .put-rows in
-    let fits = c .before .before .before .before .before .before in
+    let written = c .before .before .before .before in
+    let put = written .put-rows in
+    let fits = written .before .before in
     let told = fits .before .before in
     let clear = told .before .before .clear in
-    let a = told .before .before .before .before .before .args in
+    let a = start (told .before .before) .args in
     in-full (a .text .now) (a .rows .now) (clear .result) (clear .ensures) (told .enum-told2 .given .1) (fits .if1 .left)
     (c .magnitude .result) (c .magnitude .ensures) (put .last .0) (put .ensures)
 

@@ -20,8 +20,12 @@ Inv-loop out₀ at award count next₀ i₀ out next i =
 abbrev μ-loop : tie.MeasureT-loop
 μ-loop out₀ at award count next₀ i₀ out next i = count - i
 
-eight : (c : tie.At-loop Inv-loop μ-loop) → length (c .before .before .before .args .t3 .rows) ≡ 8
-eight c = search (length-held, c .before .before .before .good)
+-- the call, seen from a turn of the loop
+abbrev start : tie.At-loop Inv-loop μ-loop → tie.Start Inv-loop μ-loop
+start turn = turn .before .before .before
+
+eight : (turn : tie.At-loop Inv-loop μ-loop) → length (start turn .args .t3 .rows) ≡ 8
+eight turn = search (length-held, turn .before .before .before .good)
 
 loop-holds : tie.Need-loop-holds Inv-loop μ-loop
 loop-holds c = (omega arith, omega arith, refl, put-none _ _)
@@ -29,20 +33,22 @@ loop-holds c = (omega arith, omega arith, refl, put-none _ _)
 loop-again : tie.Need-loop-again Inv-loop μ-loop
 loop-again c =
     let p = c .before .before .put in
-    let line = c .before .before .before .before .row-line in
-    let l = c .before .before .before .before .before .before .before in
-    let a = l .before .before .before .args in
-    let at = l .loop in
+    let made = c .before .before .before .before in
+    let line = made .row-line in
+    let turn = made .before .before .before in
+    let a = start turn .args in
+    let at = turn .loop in
     let row = put-as (at .out) (at .next) _ _ (p .last .0) (p .result) (line .ensures) (p .ensures .0) in
     let text = put-next (a .out .now) (a .at) rowText (a .t3 .rows) (at .i) pastRow (at .out) (at .next) (p .last .0) (p .result) in
-    let within : at .i < length (a .t3 .rows) = omega (arith, eight l, l .before .row-count .ensures) in
+    let within : at .i < length (a .t3 .rows) = omega (arith, eight turn, turn .before .row-count .ensures) in
     (omega arith, omega (arith, p .ensures .1), p .kept .0 ∙ at .inv .2, text within (at .inv .2) (at .inv .3) row)
 
 returns : tie.Need-returns Inv-loop μ-loop
 returns c =
-    let a = c .before .before .before .before .args in
-    let at = c .before .loop in
-    let all = take-held (a .t3 .rows) (a .t3 .count) (at .i) (omega (arith, eight (c .before), c .before .before .row-count .ensures)) in
+    let turn = c .before in
+    let a = start turn .args in
+    let at = turn .loop in
+    let all = take-held (a .t3 .rows) (a .t3 .count) (at .i) (omega (arith, eight turn, turn .before .row-count .ensures)) in
     put-as (a .out .now) (a .at) _ _ (at .out) (at .next) (ap (joined rowText) all) (at .inv .3)
 
 pub put-rows-spec : {M : Type 1} → statement M
