@@ -1,8 +1,7 @@
 // Runs the cases of document 01, section "Cases", and others at the edges of the rules, and prints what it gets. The cases stand in
 // stdin, which begins with how they are written, and what is to be printed in stdout.
 
-// Standard input cut into cases; answers about texts and records, and how they are printed. The modules are private: what is pub in
-// them serves this program alone.
+// Standard input cut into cases; answers about texts and records, and how they are printed.
 mod pieces;
 mod records;
 mod show;

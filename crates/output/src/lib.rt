@@ -1,4 +1,4 @@
-// A text written into a lent output: what the writers of texts answer. The functions are pub for them.
+// A text written into a lent output: what the writers of texts answer.
 ghost use mathlib.Core.Path.{_≡_};
 ghost use Rattle.refusal.specs.declared.Rule.the-variants.{OutputLength};
 ghost use Rattle.refusal.specs.declared.Verdict.the-variants.{Refused};

@@ -23,8 +23,7 @@ pub enum Verdict {
     Refused(Rule, u64),
 }
 
-// The number under which a verdict is shown; 0 where nothing is refused. It is pub, as `place` is,
-// for the programs that show a verdict.
+// The number under which a verdict is shown; 0 where nothing is refused.
 pub fn number(verdict: Verdict) -> u64
     ensures { λ r. ⌜ r ≡ numberOf verdict ⌝ }
 {

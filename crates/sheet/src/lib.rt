@@ -5,8 +5,7 @@ ghost use Rattle.refusal.specs.declared.Verdict.the-variants.{Accepted};
 ghost use Rattle.sheettext.specs.Sheet.{sheetText};
 ghost use Rattle.output.specs.Writing.{writtenOf, outputAfter};
 
-// The lines of the sheet; the line of a refusal. The modules are private: of what is pub in them only
-// `write_refusal` is an entry.
+// The lines of the sheet; the line of a refusal.
 mod refusals;
 mod rows;
 
