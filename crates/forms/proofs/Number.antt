@@ -1,4 +1,4 @@
--- A number: at most thirteen digits, and no zero before another digit. Assumes nothing.
+-- The laws of a number. Assumes nothing.
 use Prim.Native.Nat.{ℕ, suc, _+_, _*_, _-_, _/_, _%_, _≤_, _<_}
 use native.Mathlib.Omega.{arith}
 use mathlib.Core.Bool.{Bool, true, false, cond}
@@ -11,23 +11,13 @@ use lib.Seq.{append-snoc}
 use Rattle.lists.proofs.Tests.{both-left, both-right}
 use Rattle.forms.specs.Digits.{digits}
 use Rattle.forms.specs.Shape.{Begins}
+use Rattle.forms.specs.Form.{parsed, stopped}
+use Rattle.forms.specs.Tests.{isFirst, goesOn, NoDigit}
+use Rattle.forms.specs.Number.{further, number-parse, Number, number}
 use Rattle.forms.proofs.Digits.{digits-one, digits-more, digits-next, by-digits}
-use Rattle.forms.proofs.DigitTests.{isFirst, goesOn, NoDigit, Goes, goes, may-go, none-after}
-use Rattle.forms.proofs.Parse.{Parse, parsed, stopped, not-both, same-place, same-value, same-rest}
-use Rattle.forms.proofs.Form.{Form, Next, next-same, begins-none}
-
--- the digits of v have been parsed
-unfoldable pub further : ℕ → List ℕ → Parse ℕ
-further v [] = parsed v []
-further v (b ∷ t) = cond (goesOn v b) (further (v * 10 + (b - 48)) t) (parsed v (b ∷ t))
-
-unfoldable pub number-parse : ℕ → List ℕ → Parse ℕ
-number-parse least [] = stopped 0
-number-parse least (b ∷ t) = cond (isFirst least b) (further (b - 48) t) (stopped 0)
-
--- from `least` on, and of at most thirteen digits
-abbrev pub Number : ℕ → ℕ → Type 0
-Number least n = (least ≤ n) × (n < 10000000000000)
+use Rattle.forms.proofs.DigitTests.{Goes, goes, may-go, none-after}
+use Rattle.forms.proofs.Parse.{not-both, same-place, same-value, same-rest}
+use Rattle.forms.proofs.Form.{Laws, Next, next-same, begins-none}
 
 module _ (least : ℕ) (small : least ≤ 1) where
   pub first-low : (b : ℕ) → isFirst least b ≡ true → 48 + least ≤ b
@@ -163,17 +153,10 @@ module _ (least : ℕ) (small : least ≤ 1) where
   number-stable [] n s e h = absurd (omega arith)
   number-stable (b ∷ t) n s e h = let w = number-stopped (b ∷ t) n e in rw (w .1) (ap (λ (k : ℕ). stopped k) (sym (w .0)))
 
-  pub least-number : Number least least
-  least-number = (omega arith, omega arith)
-
-  abbrev pub number : Form ℕ
-  number = record {
-    Valid = Number least;
-    text = digits;
-    Follow = NoDigit;
-    parse = number-parse least;
+  pub number-laws : Laws (number least)
+  number-laws = record {
     some = least;
-    some-valid = least-number;
+    some-valid = (omega arith, omega arith);
     complete = number-complete;
     sound = number-sound;
     ahead = number-ahead;
