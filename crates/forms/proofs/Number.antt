@@ -19,13 +19,14 @@ use Rattle.forms.proofs.DigitTests.{Goes, goes, may-go, none-after}
 use Rattle.forms.proofs.Parse.{not-both, same-place, same-value, same-rest}
 use Rattle.forms.proofs.Form.{Laws, Next, next-same, begins-none}
 
-module _ (least : ℕ) (small : least ≤ 1) where
+module _ (least : ℕ) where
   pub first-low : (b : ℕ) → isFirst least b ≡ true → 48 + least ≤ b
   first-low b e = leb-true (48 + least) b (both-left (leb (48 + least) b) (leb b 57) e)
 
   pub first-high : (b : ℕ) → isFirst least b ≡ true → b ≤ 57
   first-high b e = leb-true b 57 (both-right (leb (48 + least) b) (leb b 57) e)
 
+module _ (least : ℕ) (small : least ≤ 1) where
   few : (n : ℕ) → n < 10 → Number least n → (s : List ℕ) → number-parse least (digits n ++ s) ≡ further n s
   unfolding number-parse
   few n h v s =
@@ -102,8 +103,8 @@ module _ (least : ℕ) (small : least ≤ 1) where
 
   digits-first : (b : ℕ) (s : List ℕ) → isFirst least b ≡ true → digits (b - 48) ++ s ≡ b ∷ s
   digits-first b s q =
-      let z : 48 + (b - 48) ≡ b = omega (arith, first-low b q) in
-      ap (λ (l : List ℕ). l ++ s) (digits-one (b - 48) (omega (arith, first-high b q))) ∙ ap (λ (x : ℕ). x ∷ s) z
+      let z : 48 + (b - 48) ≡ b = omega (arith, first-low least b q) in
+      ap (λ (l : List ℕ). l ++ s) (digits-one (b - 48) (omega (arith, first-high least b q))) ∙ ap (λ (x : ℕ). x ∷ s) z
 
   number-parsed : (t : List ℕ) (n : ℕ) (r : List ℕ) → number-parse least t ≡ parsed n r → Parsed t n r
   unfolding number-parse
@@ -113,7 +114,7 @@ module _ (least : ℕ) (small : least ≤ 1) where
       go : (x : Bool) → isFirst least b ≡ x → cond x (further (b - 48) s) (stopped 0) ≡ parsed n r → Parsed (b ∷ s) n r
       go true q i =
           subst (λ (t : List ℕ). Parsed t n r) (digits-first b s q)
-          (further-sound s (b - 48) n r (omega (arith, first-low b q), omega (arith, first-high b q)) i)
+          (further-sound s (b - 48) n r (omega (arith, first-low least b q), omega (arith, first-high least b q)) i)
       go false q i = absurd (not-both (sym i))
 
   pub number-sound : (t : List ℕ) (n : ℕ) (r : List ℕ) → number-parse least t ≡ parsed n r → Number least n × (t ≡ digits n ++ r)
