@@ -3,13 +3,12 @@ use Prim.Native.Nat.{ℕ}
 use native.Mathlib.Omega.{arith}
 use mathlib.Core.List.{List, _++_, append-assoc}
 use mathlib.Core.Path.{refl, sym, subst}
-use lib.IntN.{natAbs}
+use lib.IntN.{ℤ}
 use Rattle.forms.specs.Bytes.{ascii}
 use Rattle.forms.specs.Shape.{Reading}
 use Rattle.forms.specs.Combined.{sequence}
-use Rattle.forms.specs.Spaced.{numbers}
+use Rattle.forms.specs.Spaced.{Numbers, numbers}
 use Rattle.forms.specs.Tests.{NoDigit}
-use Rattle.forms.proofs.Digits.{few-digits, few-below}
 use Rattle.forms.proofs.Form.{Laws, Next, any}
 use Rattle.forms.proofs.Word.{word-laws}
 use Rattle.forms.proofs.Signed.{signed-laws}
@@ -24,7 +23,7 @@ use Rattle.book.specs.declared.Segment.{Segment}
 use Rattle.book.specs.Entries.{BidEntries, BookEntries}
 use Rattle.booktext.specs.BookText.{segmentText, bidText, bookText}
 use Rattle.booktext.specs.WellFormed.{WellFormedSegment, WellFormedBid, WellFormedBook}
-use Rattle.booktext.specs.BookForm.{segment-numbers, fixed-close, SegmentParts, toSegment, segment, segments, bidFurther, BidHead, bid-head, bidOf, segments-line, bid, bids, bookFurther, Head, head, bookOf, book}
+use Rattle.booktext.specs.BookForm.{segment-numbers, fixed-close, toSegment, segment, segments, bidFurther, BidHead, bid-head, bidOf, segments-line, bid, bids, bookFurther, Head, head, bookOf, book}
 
 -- a segment
 pub segment-numbers-laws : Laws segment-numbers
@@ -33,15 +32,15 @@ segment-numbers-laws = framed-laws (ascii " (seg ") (numbers-laws 2) (ascii " ")
 fixed-laws : Laws fixed-close
 fixed-laws = sequence-laws signed-laws (word-laws (ascii ")")) (λ b r v h. (λ l k. omega arith, λ l k. omega arith))
 
-abbrev fromSegment : Segment → SegmentParts
+abbrev fromSegment : Segment → Numbers 2 × (ℤ × Unit {0})
 fromSegment s = (((s .start .0, s .end .0), s .unit .0), (s .fixed .0, tt))
 
 same-segment : Same (sequence segment-numbers fixed-close) toSegment fromSegment WellFormedSegment segmentText
 unfolding segmentText
 same-segment = record {
-  to-valid = λ s v. (((v .start, v .end), v .unit), (few-below (natAbs (s .fixed .0)) (v .fixed), tt));
+  to-valid = λ s v. ((((omega arith, v .start), (omega arith, v .end)), (omega arith, v .unit)), (v .fixed, tt));
   back = λ s v. refl;
-  from-valid = λ x v. record { start = v .0 .0 .0; end = v .0 .0 .1; unit = v .0 .1; fixed = few-digits _ (v .1 .0) };
+  from-valid = λ x v. record { start = v .0 .0 .0 .1; end = v .0 .0 .1 .1; unit = v .0 .1 .1; fixed = v .1 .0 };
   same-text = λ x v. simp append-assoc;
 }
 
@@ -73,9 +72,9 @@ fromBid b = ((tt, b .bidder), (b .segments, tt))
 same-bid : Same (sequence bid-head segments-line) (λ x. bidOf (x .0) (x .1 .0)) fromBid WellFormedBid bidText
 unfolding bidText
 same-bid = record {
-  to-valid = λ b v. ((tt, v .bidder), ((omega (arith, v .count, v .some), v .segments), tt));
+  to-valid = λ b v. ((tt, (omega arith, v .bidder)), ((omega (arith, v .count, v .some), v .segments), tt));
   back = λ b v. rw (sym (v .count));
-  from-valid = λ x v. record { bidder = v .0 .1; count = refl; some = v .1 .0 .0; segments = v .1 .0 .1 };
+  from-valid = λ x v. record { bidder = v .0 .1 .1; count = refl; some = v .1 .0 .0; segments = v .1 .0 .1 };
   same-text = λ x v. simp append-assoc;
 }
 
@@ -99,9 +98,9 @@ fromBook b = (b .demand, b .bids)
 same-book : Same (sequence head bids) (λ x. bookOf (x .0) (x .1)) fromBook WellFormedBook bookText
 unfolding bookText
 same-book = record {
-  to-valid = λ b v. (v .demand, (omega (arith, v .count, v .some), v .bids));
+  to-valid = λ b v. ((omega arith, v .demand), (omega (arith, v .count, v .some), v .bids));
   back = λ b v. rw (sym (v .count));
-  from-valid = λ x v. record { demand = v .0; count = refl; some = v .1 .0; bids = v .1 .1 };
+  from-valid = λ x v. record { demand = v .0 .1; count = refl; some = v .1 .0; bids = v .1 .1 };
   same-text = λ x v. simp append-assoc;
 }
 

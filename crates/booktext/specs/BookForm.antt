@@ -22,10 +22,7 @@ segment-numbers = framed (ascii " (seg ") (numbers 2) (ascii " ")
 abbrev pub fixed-close : Form (ℤ × Unit {0})
 fixed-close = sequence signed (word (ascii ")"))
 
-abbrev pub SegmentParts : Type 0
-SegmentParts = Numbers 2 × (ℤ × Unit {0})
-
-abbrev pub toSegment : SegmentParts → Segment
+abbrev pub toSegment : Numbers 2 × (ℤ × Unit {0}) → Segment
 toSegment x =
     record { start = record { 0 = x .0 .0 .0 }; end = record { 0 = x .0 .0 .1 }; unit = record { 0 = x .0 .1 }; fixed = record { 0 = x .1 .0 } }
 

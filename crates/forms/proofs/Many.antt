@@ -1,14 +1,12 @@
 -- The laws of any number of items. Assumes nothing.
 use Prim.Native.Nat.{ℕ, zero, suc, _+_, _≤_, _<_}
 use native.Mathlib.Omega.{arith}
-use mathlib.Core.Bool.{Bool, true, false, cond}
+use mathlib.Core.Bool.{Bool, true, false}
 use mathlib.Core.List.{List, [], _∷_, _++_, append-assoc, append-nil}
 use mathlib.Core.Path.{_≡_, refl, sym, ap, _∙_, subst}
 use borrow.Author.Tests.{eq-eqb, ne-eqb, eqb-true, eqb-false}
 use lib.Dec.{eqb}
 use lib.ListN.{length, take, length-append}
-use Rattle.lists.specs.All.{All}
-use Rattle.lists.specs.Joined.{joined}
 use Rattle.forms.specs.Shape.{Begins}
 use Rattle.forms.specs.Form.{Parse, parsed, stopped, after, Form}
 use Rattle.forms.specs.Many.{then-more, many-within, many}

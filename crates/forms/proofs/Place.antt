@@ -7,7 +7,7 @@ use mathlib.Core.Logic.{inl, inr}
 use mathlib.Core.Path.{_≡_, refl, sym, ap, _∙_, subst}
 use lib.ListN.{length, drop, length-drop, length-append}
 use lib.Seq.{drop-drop}
-use Rattle.forms.specs.Form.{parsed, stopped, after, Form}
+use Rattle.forms.specs.Form.{stopped, after, Form}
 use Rattle.forms.specs.Tests.{startsWith}
 use Rattle.forms.specs.Combined.{then-parse, sequence, via, either}
 use Rattle.forms.specs.Place.{Found, Stops, Gives, Reads}

@@ -1,9 +1,9 @@
 -- The laws of a number that may have `-` before it. Assumes nothing.
-use Prim.Native.Nat.{ℕ, zero, suc, _≤_, _<_}
+use Prim.Native.Nat.{ℕ, zero, suc}
 use native.Mathlib.Omega.{arith}
 use mathlib.Core.Logic.{_⊎_, inl, inr}
 use mathlib.Core.Path.{_≡_, refl}
-use lib.IntN.{ℤ, pos, negsuc, negℤ, natAbs}
+use lib.IntN.{ℤ, pos, negsuc}
 use Rattle.forms.specs.Digits.{signedDigits}
 use Rattle.forms.specs.Number.{number}
 use Rattle.forms.specs.Signed.{minus-or-none, integer, Integer, signed}

@@ -1,9 +1,8 @@
 -- The laws of one or more items. Assumes nothing.
-use Prim.Native.Nat.{ℕ, _≤_}
+use Prim.Native.Nat.{ℕ}
 use native.Mathlib.Omega.{arith}
 use mathlib.Core.List.{List, [], _∷_, _++_}
 use mathlib.Core.Path.{_≡_, refl, ap}
-use lib.ListN.{length}
 use Rattle.lists.specs.Joined.{joined}
 use Rattle.forms.specs.Form.{Form}
 use Rattle.forms.specs.Combined.{sequence}

@@ -13,9 +13,8 @@ use Rattle.forms.specs.Tests.{NoDigit}
 use Rattle.forms.specs.Word.{word}
 use Rattle.forms.specs.Number.{number}
 use Rattle.forms.specs.Combined.{sequence}
-use Rattle.forms.specs.Spaced.{Short, plain, spaced, Numbers, numbers, numbersIn}
+use Rattle.forms.specs.Spaced.{spaced, Numbers, numbers, numbersIn}
 use Rattle.forms.specs.Place.{Reads}
-use Rattle.forms.proofs.Digits.{few-digits, few-below}
 use Rattle.forms.proofs.Form.{Laws, any}
 use Rattle.forms.proofs.Word.{word-laws}
 use Rattle.forms.proofs.Number.{number-laws}
@@ -23,20 +22,9 @@ use Rattle.forms.proofs.Sequence.{sequence-laws}
 use Rattle.forms.proofs.Via.{Same, via-laws}
 use Rattle.forms.proofs.Place.{reads-both, reads-via}
 
-same-number : Same (number 0) (λ n. n) (λ n. n) Short digits
-same-number = record {
-  to-valid = λ n v. (omega arith, few-below n v);
-  back = λ n v. refl;
-  from-valid = λ n v. few-digits n (v .1);
-  same-text = λ n v. refl;
-}
-
-plain-laws : Laws plain
-plain-laws = via-laws (number-laws 0 (omega arith)) same-number
-
 module _ {A : Type 0} {p : Form A} (P : Laws p) where
   abbrev parts : Form ((A × Unit {0}) × ℕ)
-  parts = sequence (sequence p (word (ascii " "))) plain
+  parts = sequence (sequence p (word (ascii " "))) (number 0)
 
   same-spaced : Same parts (λ x. (x .0 .0, x .1)) (λ y. ((y .0, tt), y .1)) (spaced p .Valid) (spaced p .text)
   same-spaced = record {
@@ -48,7 +36,7 @@ module _ {A : Type 0} {p : Form A} (P : Laws p) where
 
   spaced-laws : p .Follow 32 → Laws (spaced p)
   spaced-laws may =
-      via-laws (sequence-laws (sequence-laws P (word-laws (ascii " ")) (λ b r v h. may)) plain-laws (λ b r v h. any (digits b ++ r))) same-spaced
+      via-laws (sequence-laws (sequence-laws P (word-laws (ascii " ")) (λ b r v h. may)) (number-laws 0 (omega arith)) (λ b r v h. any (digits b ++ r))) same-spaced
 
 -- anything but a digit may follow
 pub numbers-end : (n b : ℕ) → NoDigit b → numbers n .Follow b
@@ -56,7 +44,7 @@ numbers-end zero b h = h
 numbers-end (suc n) b h = h
 
 pub numbers-laws : (n : ℕ) → Laws (numbers n)
-numbers-laws zero = plain-laws
+numbers-laws zero = number-laws 0 (omega arith)
 numbers-laws (suc n) = spaced-laws (numbers-laws n) (numbers-end n 32 (λ l k. omega arith))
 
 pub numbers-kept : (n k v : ℕ) (xs : List ℕ) → n < k → numbersIn n (set xs k v) ≡ numbersIn n xs
@@ -66,9 +54,6 @@ numbers-kept (suc n) k v xs h =
 
 -- read one after the other
 module _ (t : List ℕ) where
-  pub reads-plain : (i : ℕ) (before : Bool) (n e : ℕ) (stop : Bool) → Reads (number 0) t i before n e stop → Reads plain t i before n e stop
-  reads-plain i before n e stop x = reads-via (number 0) (λ n. n) Short digits t i before n e stop x
-
   pub reads-further : (n i : ℕ) (before : Bool) (x : Numbers n) (e₀ : ℕ) (mid₀ : Bool) (e₁ : ℕ) (mid₁ : Bool) (v e : ℕ) (stop : Bool)
       → Reads (numbers n) t i before x e₀ mid₀
       → Reads (word (ascii " ")) t e₀ mid₀ tt e₁ mid₁
@@ -79,5 +64,4 @@ module _ (t : List ℕ) where
       let space = word (ascii " ") in
       let both = sequence-laws P (word-laws (ascii " ")) (λ b r v h. numbers-end n 32 (λ l k. omega arith)) in
       reads-via (parts P) (λ x. (x .0 .0, x .1)) (numbers (suc n) .Valid) (numbers (suc n) .text) t i before ((x, tt), v) e stop
-      (reads-both both plain t i before (x, tt) e₁ mid₁ v e stop (reads-both P space t i before x e₀ mid₀ tt e₁ mid₁ a b)
-      (reads-plain e₁ mid₁ v e stop c))
+      (reads-both both (number 0) t i before (x, tt) e₁ mid₁ v e stop (reads-both P space t i before x e₀ mid₀ tt e₁ mid₁ a b) c)

@@ -11,6 +11,7 @@ use Rattle.forms.specs.Form.{Parse, parsed, stopped, after, Form}
 use Rattle.forms.specs.Combined.{sequence, via}
 
 module _ {A : Type 0} (x : ℕ) (p : Form A) where
+  -- after an item, the others, parsed by f
   abbrev pub then-more : (List ℕ → Parse (List A)) → Parse A → Parse (List A)
   then-more f (parsed a r) = after (length (p .text a)) (λ xs. a ∷ xs) (f r)
   then-more f (stopped n) = stopped n
@@ -30,6 +31,7 @@ module _ {A : Type 0} (x : ℕ) (p : Form A) where
     parse = λ t. many-within (length t) t;
   }
 
+  -- one or more of them
   abbrev pub OneOrMore : List A → Type 0
   OneOrMore xs = (1 ≤ length xs) × All (p .Valid) xs
 

@@ -1,25 +1,18 @@
 -- Numbers with one space between two of them.
-use Prim.Native.Nat.{ℕ, zero, suc, _≤_}
+use Prim.Native.Nat.{ℕ, zero, suc}
 use mathlib.Core.List.{List, _++_}
-use lib.ListN.{length, getD}
+use lib.ListN.{getD}
 use Rattle.forms.specs.Bytes.{ascii}
 use Rattle.forms.specs.Digits.{digits}
 use Rattle.forms.specs.Form.{Form}
 use Rattle.forms.specs.Word.{word}
-use Rattle.forms.specs.Number.{number}
+use Rattle.forms.specs.Number.{Number, number}
 use Rattle.forms.specs.Combined.{sequence, via}
-
--- a number, by its digits: at most thirteen
-abbrev pub Short : ℕ → Type 0
-Short n = length (digits n) ≤ 13
-
-abbrev pub plain : Form ℕ
-plain = via (number 0) (λ n. n) Short digits
 
 -- p, a space and a number
 abbrev pub spaced : {A : Type 0} → Form A → Form (A × ℕ)
 spaced p =
-    via (sequence (sequence p (word (ascii " "))) plain) (λ x. (x .0 .0, x .1)) (λ y. p .Valid (y .0) × Short (y .1))
+    via (sequence (sequence p (word (ascii " "))) (number 0)) (λ x. (x .0 .0, x .1)) (λ y. p .Valid (y .0) × Number 0 (y .1))
     (λ y. p .text (y .0) ++ ascii " " ++ digits (y .1))
 
 -- one number, and n further ones
@@ -28,7 +21,7 @@ Numbers zero = ℕ
 Numbers (suc n) = Numbers n × ℕ
 
 abbrev pub numbers : (n : ℕ) → Form (Numbers n)
-numbers zero = plain
+numbers zero = number 0
 numbers (suc n) = spaced (numbers n)
 
 -- as code keeps them

@@ -4,17 +4,20 @@ use mathlib.Core.Bool.{Bool, false, _&&_}
 use mathlib.Core.List.{List, [], _∷_}
 use lib.Dec.{leb, ltb, eqb}
 
+-- the next byte is x
 abbrev pub startsWith : ℕ → List ℕ → Bool
 startsWith x [] = false
 startsWith x (b ∷ r) = eqb b x
 
+-- `0` to `9`
 abbrev pub isDigit : ℕ → Bool
 isDigit b = leb 48 b && leb b 57
 
--- a number may begin with b, where `least` is the least number that is allowed
+-- a number may begin with b: `least` is 0, or 1 where 0 is not allowed
 abbrev pub isFirst : ℕ → ℕ → Bool
 isFirst least b = leb (48 + least) b && leb b 57
 
+-- the next byte may begin one
 abbrev pub beginsNumber : ℕ → List ℕ → Bool
 beginsNumber least [] = false
 beginsNumber least (b ∷ t) = isFirst least b

@@ -5,6 +5,7 @@ use mathlib.Core.List.{List, [], _∷_}
 use lib.Dec.{eqb}
 use Rattle.forms.specs.Form.{Parse, parsed, stopped, after, Form}
 
+-- byte by byte, up to the first that differs
 unfoldable pub word-parse : List ℕ → List ℕ → Parse (Unit {0})
 word-parse [] t = parsed tt t
 word-parse (c ∷ w) [] = stopped 0

@@ -10,7 +10,7 @@ use Rattle.forms.specs.Bytes.{ascii}
 use Rattle.forms.specs.Word.{word}
 use Rattle.forms.specs.Number.{number}
 use Rattle.forms.specs.Spaced.{Numbers, numbers, numbersIn}
-use Rattle.forms.proofs.Spaced.{numbers-kept, reads-plain, reads-further}
+use Rattle.forms.proofs.Spaced.{numbers-kept, reads-further}
 use Rattle.scanner.specs.declared.Cursor.{Cursor}
 use Rattle.scanner.specs.Scans.{Scans}
 
@@ -38,7 +38,7 @@ module _ (t : List ℕ) (next₀ : Cursor) (further : ℕ) (values : List ℕ) (
     few = omega arith;
     four = four;
     within = l;
-    read = λ from s. reads-plain t (from .at) (from .stopped) (getD values 0 0) (next₀ .at) (next₀ .stopped) s;
+    read = λ from s. s;
   }
 
 module _ (t : List ℕ) (first : ℕ) (next₀ : Cursor) (further : ℕ) (values : List ℕ) (next : Cursor) (i : ℕ) (so-far : Several t first next₀ further values next i) where
