@@ -9,7 +9,7 @@ use Rattle.forms.specs.Form.{Parse, parsed, stopped, after, Form}
 use Rattle.forms.specs.Word.{word}
 
 module _ {A B : Type 0} where
-  -- p, and then q after what was parsed of p
+  -- p, and then q: `then-parse` goes on from what was parsed of p
   abbrev pub then-parse : Form A → Form B → Parse A → Parse (A × B)
   then-parse p q (parsed a r) = after (length (p .text a)) (λ b. (a, b)) (q .parse r)
   then-parse p q (stopped n) = stopped n

@@ -11,7 +11,7 @@ use Rattle.forms.specs.Form.{Parse, parsed, stopped, after, Form}
 use Rattle.forms.specs.Combined.{sequence, via}
 
 module _ {A : Type 0} (x : ℕ) (p : Form A) where
-  -- after an item, the others, parsed by f
+  -- an item, and after it the others, which f parses
   abbrev pub then-more : (List ℕ → Parse (List A)) → Parse A → Parse (List A)
   then-more f (parsed a r) = after (length (p .text a)) (λ xs. a ∷ xs) (f r)
   then-more f (stopped n) = stopped n

@@ -17,7 +17,7 @@ unfoldable pub number-parse : ℕ → List ℕ → Parse ℕ
 number-parse least [] = stopped 0
 number-parse least (b ∷ t) = cond (isFirst least b) (further (b - 48) t) (stopped 0)
 
--- from `least` on, which is 0 or 1, and by its digits
+-- from `least` on, which is 0 or 1, and of at most thirteen digits
 abbrev pub Number : ℕ → ℕ → Type 0
 Number least n = (least ≤ n) × (length (digits n) ≤ 13)
 

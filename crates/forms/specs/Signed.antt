@@ -17,6 +17,7 @@ abbrev pub integer : ℕ ⊎ ℕ → ℤ
 integer (inl n) = negℤ (pos n)
 integer (inr n) = pos n
 
+-- of at most thirteen digits, whatever the sign
 abbrev pub Integer : ℤ → Type 0
 Integer z = length (digits (natAbs z)) ≤ 13
 

@@ -24,7 +24,7 @@ abbrev pub numbers : (n : ℕ) → Form (Numbers n)
 numbers zero = number 0
 numbers (suc n) = spaced (numbers n)
 
--- as code keeps them
+-- the first of a list, and n further ones
 abbrev pub numbersIn : (n : ℕ) → List ℕ → Numbers n
 numbersIn zero xs = getD xs 0 0
 numbersIn (suc n) xs = (numbersIn n xs, getD xs (suc n) 0)

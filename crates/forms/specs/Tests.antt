@@ -26,5 +26,6 @@ beginsNumber least (b ∷ t) = isFirst least b
 abbrev pub goesOn : ℕ → ℕ → Bool
 goesOn v b = ltb 0 v && (ltb v 1000000000000 && isDigit b)
 
+-- any other byte
 abbrev pub NoDigit : ℕ → Type 0
 NoDigit b = 48 ≤ b → b ≤ 57 → ⊥

@@ -50,9 +50,6 @@ loop-holds c =
     (f .result .next .at) (f .result .next .stopped) (s .pre .within) (f .ensures .0 .2)
     (ap bidCount (r .ensures) ∙ ap (λ (n : ℕ). n + 1) (s .pre .none))
 
-begins-requires : tie.Need-begins-requires Inv-loop μ-loop
-begins-requires c κs = tt
-
 bid-requires-2 : tie.Need-bid-requires-2 Inv-loop μ-loop
 bid-requires-2 c κs = c .before .before .loop .inv .run .within
 
@@ -104,7 +101,7 @@ bids-spec =
     bid-requires
     (λ c κs. omega arith)
     loop-holds
-    begins-requires
+    (λ c κs. tt)
     bid-requires-2
     with-bid-requires-2
     loop-less

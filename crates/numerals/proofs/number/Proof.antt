@@ -53,9 +53,6 @@ returns c =
 is-first-at-requires : tie.Need-is-first-at-requires Inv-loop μ-loop
 is-first-at-requires c κs = c .before .before .pre .small
 
-no-number-requires : tie.Need-no-number-requires Inv-loop μ-loop
-no-number-requires c κs = tt
-
 returns-2 : tie.Need-returns-2 Inv-loop μ-loop
 returns-2 c =
     let seen = c .before .before in
@@ -84,12 +81,6 @@ loop-holds : tie.Need-loop-holds Inv-loop μ-loop
 loop-holds c =
     let a = start (c .before .before .before) .args in
     number-first (a .least) (a .text .now) (a .from .at) (c .value-of .result) (begins (c .before .before)) (c .value-of .ensures)
-
-goes-on-requires : tie.Need-goes-on-requires Inv-loop μ-loop
-goes-on-requires c κs = tt
-
-number-to-requires : tie.Need-number-to-requires Inv-loop μ-loop
-number-to-requires c κs = tt
 
 returns-3 : tie.Need-returns-3 Inv-loop μ-loop
 returns-3 c =
@@ -121,9 +112,6 @@ add-value c = omega (arith, grown c .few)
 loop-again : tie.Need-loop-again Inv-loop μ-loop
 loop-again c = grown c
 
-number-to-requires-2 : tie.Need-number-to-requires-2 Inv-loop μ-loop
-number-to-requires-2 c κs = tt
-
 returns-4 : tie.Need-returns-4 Inv-loop μ-loop
 returns-4 c =
     let l = c .before .before .loop in
@@ -146,20 +134,20 @@ number-spec =
     μ-loop
     returns
     is-first-at-requires
-    no-number-requires
+    (λ c κs. tt)
     returns-2
     shared-slice-read-value-of
     value-of-requires
     add-i
     loop-holds
     (λ c. omega arith)
-    goes-on-requires
-    number-to-requires
+    (λ c κs. tt)
+    (λ c κs. tt)
     returns-3
     mul-value
     value-of-requires-2
     add-value
     (λ c. omega arith) (λ c. omega arith)
     loop-again
-    number-to-requires-2
+    (λ c κs. tt)
     returns-4)

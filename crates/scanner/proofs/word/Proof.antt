@@ -35,14 +35,8 @@ loop-holds c = let s = start c in along-start (s .args .text .now) (s .args .w .
 add-byte-at : tie.Need-add-byte-at Inv-loop μ-loop
 add-byte-at c = omega (arith, c .before .loop .inv .in-text)
 
-byte-at-requires : tie.Need-byte-at-requires Inv-loop μ-loop
-byte-at-requires c κs = tt
-
 add-stop : tie.Need-add-stop Inv-loop μ-loop
 add-stop c = omega (arith, turn (c .before) .loop .inv .in-text)
-
-stop-requires : tie.Need-stop-requires Inv-loop μ-loop
-stop-requires c κs = tt
 
 returns-2 : tie.Need-returns-2 Inv-loop μ-loop
 returns-2 c =
@@ -84,9 +78,9 @@ word-spec =
     loop-holds
     add-byte-at
     (λ c. omega arith)
-    byte-at-requires
+    (λ c κs. tt)
     add-stop
-    stop-requires
+    (λ c κs. tt)
     returns-2
     add-i
     (λ c. omega arith)

@@ -44,9 +44,6 @@ loop-holds c =
     (f .result .next .at) (f .result .next .stopped) (s .pre .within) (f .ensures .0)
     (ap segmentCount (r .ensures) ∙ ap (λ (n : ℕ). n + 1) (s .pre .none))
 
-begins-requires : tie.Need-begins-requires Inv-loop μ-loop
-begins-requires c κs = tt
-
 segment-requires-2 : tie.Need-segment-requires-2 Inv-loop μ-loop
 segment-requires-2 c κs = c .before .before .loop .inv .run .within
 
@@ -100,7 +97,7 @@ segments-spec =
     segment-requires
     (λ c κs. omega arith)
     loop-holds
-    begins-requires
+    (λ c κs. tt)
     segment-requires-2
     with-segment-requires-2
     loop-less
