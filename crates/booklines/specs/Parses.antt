@@ -1,7 +1,8 @@
 -- For the contracts of the functions that parse a book: what was parsed are the entries whose record is given.
-use Prim.Native.Nat.{ℕ}
+use Prim.Native.Nat.{ℕ, _≤_}
 use mathlib.Core.List.{List, []}
 use mathlib.Core.Path.{_≡_}
+use lib.ListN.{length}
 use Rattle.book.specs.declared.Segment.{Segment}
 use Rattle.book.specs.declared.Bid.{Bid}
 use Rattle.book.specs.declared.Book.{Book}
@@ -9,8 +10,13 @@ use Rattle.book.specs.Entries.{BidEntries, BookEntries}
 use Rattle.scanner.specs.declared.Cursor.{Cursor}
 use Rattle.scanner.specs.Scans.{Scans}
 use Rattle.booktext.specs.Record.{bidRecord, bookRecord}
-use Rattle.booktext.proofs.BookForm.{segments, bid, BidHead, bidOf, bid-head, bids, Head, bookOf, head, book}
+use Rattle.booktext.specs.BookForm.{segments, BidHead, bid-head, bidOf, bid, bids, Head, head, bookOf, book}
 use Rattle.bookrecord.specs.Adding.{withSegments, withBids}
+
+-- what a function asks that adds entries to a record: a place in the text, and a record that has none
+pub record AddingAsks (t : List ℕ) (from : Cursor) (count : ℕ) : Type 0 where
+  pub within : from .at ≤ length t
+  pub none : count ≡ 0
 
 -- the head of a book, in the record of a book with no bid
 abbrev pub ParsesDemand : List ℕ → Cursor → Book → Cursor → Type 0

@@ -1,10 +1,9 @@
 // The lines of a bid book, parsed into a record: the demand, and the bids.
-ghost use mathlib.Core.Path.{_≡_};
 ghost use Prim.Native.Nat.{_≤_};
 ghost use lib.ListN.{length};
-ghost use Rattle.booklines.specs.Parses.{ParsesDemand, ParsesBidder, ParsesBid, ParsesBids, ParsesLines};
+ghost use Rattle.booklines.specs.Parses.{AddingAsks, ParsesDemand, ParsesBidder, ParsesBid, ParsesBids, ParsesLines};
 
-// The segments of a bid. The module is private: what is pub in it serves this crate alone.
+// The segments of a bid.
 mod segments;
 
 use book::Book;
@@ -49,7 +48,7 @@ fn bid(text: &[u8], from: Cursor) -> ParsedBid
 
 // One or more bids, added to the record of a head.
 fn bids(text: &[u8], from: Cursor, head: Book) -> ParsedBook
-    requires { ⌜ (from .at ≤ length (now text)) × (head .count ≡ 0) ⌝ }
+    requires { ⌜ AddingAsks (now text) from (head .count) ⌝ }
     ensures { λ r. ⌜ ParsesBids (now (text .entry)) from head (r .book) (r .next) ⌝ }
 {
     let first = bid(text, from);

@@ -1,10 +1,9 @@
 // The segments of a bid.
-ghost use mathlib.Core.Path.{_≡_};
 ghost use Prim.Native.Nat.{_≤_};
 ghost use lib.ListN.{length};
 ghost use Rattle.scanner.specs.Scans.{Scans};
-ghost use Rattle.booktext.proofs.BookForm as Form;
-ghost use Rattle.booklines.specs.Parses.{ParsesSegments};
+ghost use Rattle.booktext.specs.BookForm as Form;
+ghost use Rattle.booklines.specs.Parses.{AddingAsks, ParsesSegments};
 use book::Bid;
 use book::Segment;
 use money::Blanks;
@@ -45,7 +44,7 @@ fn segment(text: &[u8], from: Cursor) -> ParsedSegment
 
 // One or more segments, added to the record of a bid that has none.
 pub fn segments(text: &[u8], from: Cursor, head: Bid) -> ParsedBid
-    requires { ⌜ (from .at ≤ length (now text)) × (head .count ≡ 0) ⌝ }
+    requires { ⌜ AddingAsks (now text) from (head .count) ⌝ }
     ensures { λ r. ⌜ ParsesSegments (now (text .entry)) from head (r .bid) (r .next) ⌝ }
     ensures { λ r. ⌜ r .next .at ≤ length (now (text .entry)) ⌝ }
 {

@@ -16,13 +16,15 @@ use Rattle.book.specs.declared.Book.{Book}
 use Rattle.book.specs.Entries.{BookEntries, bookEntries}
 use Rattle.book.specs.Rules.{bookVerdict}
 use Rattle.forms.specs.Shape.{TextOf, Longest, Reading, of-shape, not-of-shape, answer}
-use Rattle.forms.proofs.Parse.{parsed, stopped}
-use Rattle.forms.proofs.Place.{Found, Stops, wide}
+use Rattle.forms.specs.Form.{parsed, stopped}
+use Rattle.forms.specs.Place.{Found, Stops}
+use Rattle.forms.proofs.Place.{wide}
 use Rattle.forms.proofs.Whole.{parsed-text, stopped-longest, stopped-none, ended-longest, ended-none, one-answer}
 use Rattle.booktext.specs.BookText.{bookText}
 use Rattle.booktext.specs.WellFormed.{WellFormedBook}
 use Rattle.booktext.specs.Record.{bookRecord, emptyBook}
-use Rattle.booktext.proofs.BookForm.{book, book-reading}
+use Rattle.booktext.specs.BookForm.{book}
+use Rattle.booktext.proofs.BookForm.{book-laws, book-reading}
 use Rattle.bookreader.specs.declared.BookRead.{BookRead}
 use Rattle.bookreader.specs.Reading.{refusedAnswer, bookAnswer, readOf}
 
@@ -39,7 +41,7 @@ module _ (t : List ℕ) where
     pub any-reading : (x : Reading WellFormedBook bookText t) → answered x ≡ readOf t
     unfolding readOf
     any-reading x =
-        one-answer book bookAnswer (refusedAnswer Shape) t x (book-reading t)
+        one-answer book-laws bookAnswer (refusedAnswer Shape) t x (book-reading t)
         ∙ ap (λ (b : Bool). cond b (answered (book-reading t)) (refusedAnswer TextLength 4096)) (sym (le-leb (length t) 4096 short))
 
     pub read-text : (b : BookEntries) → TextOf WellFormedBook bookText t b → bookAnswer b ≡ readOf t
@@ -55,19 +57,19 @@ module _ (t : List ℕ) where
     read-stopped e s =
         let z : e - 0 ≡ e = omega arith in
         let q = s .finds ∙ ap (λ (n : ℕ). stopped n) z in
-        read-other e (stopped-none book t e q) (stopped-longest book t e q)
+        read-other e (stopped-none book-laws t e q) (stopped-longest book-laws t e q)
 
     -- a book was parsed, and the text goes on
     pub read-ended : (b : BookEntries) (e : ℕ) → Found book t 0 b e → e < length t → refusedAnswer Shape e ≡ readOf t
     read-ended b e f h =
         let q = f .finds ∙ ap (λ (r : List ℕ). parsed b r) (drop-cons t e 0 h) in
-        let z : length (bookText b) ≡ e = omega (arith, wide book t f) in
+        let z : length (bookText b) ≡ e = omega (arith, wide book-laws t f) in
         ap (refusedAnswer Shape) (sym z)
-        ∙ read-other (length (bookText b)) (ended-none book t b (getD t e 0) (drop (suc e) t) q) (ended-longest book t b (getD t e 0) (drop (suc e) t) q)
+        ∙ read-other (length (bookText b)) (ended-none book-laws t b (getD t e 0) (drop (suc e) t) q) (ended-longest book-laws t b (getD t e 0) (drop (suc e) t) q)
 
     -- the text is a book's
     pub read-whole : (b : BookEntries) (e : ℕ) → Found book t 0 b e → length t ≤ e → bookAnswer b ≡ readOf t
-    read-whole b e f h = read-text b (parsed-text book t b (f .finds ∙ ap (λ (r : List ℕ). parsed b r) (drop-of-length-le t h)))
+    read-whole b e f h = read-text b (parsed-text book-laws t b (f .finds ∙ ap (λ (r : List ℕ). parsed b r) (drop-of-length-le t h)))
 
 -- what the record's verdict gives
 pub answer-refused : (b : BookEntries) (r : Book) (verdict : Verdict) (rule : Rule) (line : ℕ) → r ≡ bookRecord b

@@ -1,7 +1,8 @@
 // Reading a bid book from its text.
 ghost use mathlib.Core.Path.{_≡_};
 ghost use Rattle.bookreader.specs.Reading.{readOf, refusedAnswer};
-// The reader struct. The module is private: what is pub in it serves this crate alone.
+
+// The reader struct.
 mod reading;
 
 use book::Book;

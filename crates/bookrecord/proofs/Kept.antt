@@ -13,7 +13,7 @@ use Rattle.book.specs.declared.Bid.{Bid}
 use Rattle.book.specs.declared.Book.{Book}
 use Rattle.book.specs.Entries.{BidEntries}
 use Rattle.booktext.specs.Record.{emptySegment, emptyBid, bidRecord, bookRecord}
-use Rattle.booktext.proofs.BookForm.{BidHead, Head, bidOf, bookOf}
+use Rattle.booktext.specs.BookForm.{BidHead, Head, bidOf, bookOf}
 use Rattle.bookrecord.specs.Adding.{added, withSegment, withBid, withSegments, withBids}
 
 added-padded : {A : Type 0} (n : ℕ) (zero-entry : A) (xs : List A) (x : A) → added n (padded n zero-entry xs) (length xs) x ≡ padded n zero-entry (xs ++ x ∷ [])

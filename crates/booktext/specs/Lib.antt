@@ -1,4 +1,5 @@
 pub mod BookText
 pub mod WellFormed
+pub mod BookForm
 pub mod Record
 pub mod Arrays

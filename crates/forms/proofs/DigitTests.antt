@@ -1,31 +1,12 @@
--- The tests by which a number is parsed, digit by digit, and what they tell. Assumes nothing.
-use Prim.Native.Nat.{ℕ, _+_, _≤_, _<_}
+-- What the tests of digits tell. Assumes nothing.
+use Prim.Native.Nat.{ℕ, _≤_, _<_}
 use mathlib.Core.Bool.{Bool, true, false, _&&_}
-use mathlib.Core.List.{List, [], _∷_}
 use mathlib.Core.Path.{_≡_, refl}
 use borrow.Author.Tests.{le-leb, lt-ltb, leb-true, ltb-true}
 use lib.Dec.{leb, ltb}
 use Rattle.lists.proofs.Tests.{both-left, both-right}
+use Rattle.forms.specs.Tests.{isDigit, goesOn, NoDigit}
 
-abbrev pub isDigit : ℕ → Bool
-isDigit b = leb 48 b && leb b 57
-
--- a number may begin with b, where `least` is the least number that is allowed
-abbrev pub isFirst : ℕ → ℕ → Bool
-isFirst least b = leb (48 + least) b && leb b 57
-
-abbrev pub beginsNumber : ℕ → List ℕ → Bool
-beginsNumber least [] = false
-beginsNumber least (b ∷ t) = isFirst least b
-
--- after the digits of v the digit b may follow
-abbrev pub goesOn : ℕ → ℕ → Bool
-goesOn v b = ltb 0 v && (ltb v 1000000000000 && isDigit b)
-
-abbrev pub NoDigit : ℕ → Type 0
-NoDigit b = 48 ≤ b → b ≤ 57 → ⊥
-
--- what the tests tell
 pub record Goes (v b : ℕ) : Type 0 where
   pub some : 0 < v
   pub few : v < 1000000000000

@@ -1,41 +1,31 @@
--- A form of text: the texts of its values, a parser for them, and the laws between the two. Assumes nothing.
+-- The laws of a form of text, between the texts of its values and its parser. Assumes nothing.
 use Prim.Native.Nat.{ℕ, suc, _+_, _≤_, _<_}
 use native.Mathlib.Omega.{arith}
-use mathlib.Core.Bool.{Bool, false}
 use mathlib.Core.List.{List, [], _∷_, _++_, append-assoc}
 use mathlib.Core.Path.{_≡_, refl, sym, ap, ap₂, _∙_, subst}
-use lib.Dec.{eqb}
 use lib.ListN.{length, take, length-append}
 use lib.Seq.{take-append-add}
 use Rattle.forms.specs.Shape.{Begins}
-use Rattle.forms.proofs.Parse.{Parse, parsed, stopped}
+use Rattle.forms.specs.Form.{parsed, stopped, Form}
 
 -- The text r is at its end, or its first byte may stand there.
 abbrev pub Next : (ℕ → Type 0) → List ℕ → Type 0
 Next Follow [] = Unit {0}
 Next Follow (b ∷ r) = Follow b
 
-abbrev pub startsWith : ℕ → List ℕ → Bool
-startsWith x [] = false
-startsWith x (b ∷ r) = eqb b x
-
-pub record Form (A : Type 0) : Type 1 where
-  pub Valid : A → Type 0
-  pub text : A → List ℕ
-  pub Follow : ℕ → Type 0  -- the bytes that may stand after a text of the form
-  pub parse : List ℕ → Parse A
+pub record Laws {A : Type 0} (p : Form A) : Type 0 where
   pub some : A
-  pub some-valid : Valid some
+  pub some-valid : p .Valid some
   -- the text of a value is parsed as this value
-  pub complete : (a : A) (r : List ℕ) → Valid a → Next Follow r → parse (text a ++ r) ≡ parsed a r
+  pub complete : (a : A) (r : List ℕ) → p .Valid a → Next (p .Follow) r → p .parse (p .text a ++ r) ≡ parsed a r
   -- what is parsed is the text of the value found
-  pub sound : (t : List ℕ) (a : A) (r : List ℕ) → parse t ≡ parsed a r → Valid a × (t ≡ text a ++ r)
+  pub sound : (t : List ℕ) (a : A) (r : List ℕ) → p .parse t ≡ parsed a r → p .Valid a × (t ≡ p .text a ++ r)
   -- of what follows, one byte is looked at
-  pub ahead : (t : List ℕ) (a : A) (r s : List ℕ) → parse t ≡ parsed a r → take 1 s ≡ take 1 r → parse (text a ++ s) ≡ parsed a s
+  pub ahead : (t : List ℕ) (a : A) (r s : List ℕ) → p .parse t ≡ parsed a r → take 1 s ≡ take 1 r → p .parse (p .text a ++ s) ≡ parsed a s
   -- where the parser stops, some text of the form has the bytes before
-  pub viable : (t : List ℕ) (n : ℕ) → parse t ≡ stopped n → (n ≤ length t) × Begins Valid text (take n t)
+  pub viable : (t : List ℕ) (n : ℕ) → p .parse t ≡ stopped n → (n ≤ length t) × Begins (p .Valid) (p .text) (take n t)
   -- and with one byte more it stops there whatever follows
-  pub stable : (t : List ℕ) (n : ℕ) (s : List ℕ) → parse t ≡ stopped n → n < length t → parse (take (suc n) t ++ s) ≡ stopped n
+  pub stable : (t : List ℕ) (n : ℕ) (s : List ℕ) → p .parse t ≡ stopped n → n < length t → p .parse (take (suc n) t ++ s) ≡ stopped n
 
 -- every text begins with nothing
 pub begins-none : {A : Type 0} {Valid : A → Type 0} {text : A → List ℕ} (a : A) → Valid a → (t : List ℕ) (n : ℕ) → n ≡ 0

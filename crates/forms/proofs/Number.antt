@@ -1,4 +1,4 @@
--- A number: at most thirteen digits, and no zero before another digit. Assumes nothing.
+-- The laws of a number. Assumes nothing.
 use Prim.Native.Nat.{ℕ, suc, _+_, _*_, _-_, _/_, _%_, _≤_, _<_}
 use native.Mathlib.Omega.{arith}
 use mathlib.Core.Bool.{Bool, true, false, cond}
@@ -11,31 +11,22 @@ use lib.Seq.{append-snoc}
 use Rattle.lists.proofs.Tests.{both-left, both-right}
 use Rattle.forms.specs.Digits.{digits}
 use Rattle.forms.specs.Shape.{Begins}
-use Rattle.forms.proofs.Digits.{digits-one, digits-more, digits-next, by-digits}
-use Rattle.forms.proofs.DigitTests.{isFirst, goesOn, NoDigit, Goes, goes, may-go, none-after}
-use Rattle.forms.proofs.Parse.{Parse, parsed, stopped, not-both, same-place, same-value, same-rest}
-use Rattle.forms.proofs.Form.{Form, Next, next-same, begins-none}
+use Rattle.forms.specs.Form.{parsed, stopped}
+use Rattle.forms.specs.Tests.{isFirst, goesOn, NoDigit}
+use Rattle.forms.specs.Number.{further, number-parse, Number, number}
+use Rattle.forms.proofs.Digits.{digits-one, digits-more, digits-next, by-digits, few-digits, few-below}
+use Rattle.forms.proofs.DigitTests.{Goes, goes, may-go, none-after}
+use Rattle.forms.proofs.Parse.{not-both, same-place, same-value, same-rest}
+use Rattle.forms.proofs.Form.{Laws, Next, next-same, begins-none}
 
--- the digits of v have been parsed
-unfoldable pub further : ℕ → List ℕ → Parse ℕ
-further v [] = parsed v []
-further v (b ∷ t) = cond (goesOn v b) (further (v * 10 + (b - 48)) t) (parsed v (b ∷ t))
-
-unfoldable pub number-parse : ℕ → List ℕ → Parse ℕ
-number-parse least [] = stopped 0
-number-parse least (b ∷ t) = cond (isFirst least b) (further (b - 48) t) (stopped 0)
-
--- from `least` on, and of at most thirteen digits
-abbrev pub Number : ℕ → ℕ → Type 0
-Number least n = (least ≤ n) × (n < 10000000000000)
-
-module _ (least : ℕ) (small : least ≤ 1) where
+module _ (least : ℕ) where
   pub first-low : (b : ℕ) → isFirst least b ≡ true → 48 + least ≤ b
   first-low b e = leb-true (48 + least) b (both-left (leb (48 + least) b) (leb b 57) e)
 
   pub first-high : (b : ℕ) → isFirst least b ≡ true → b ≤ 57
   first-high b e = leb-true b 57 (both-right (leb (48 + least) b) (leb b 57) e)
 
+module _ (least : ℕ) (small : least ≤ 1) where
   few : (n : ℕ) → n < 10 → Number least n → (s : List ℕ) → number-parse least (digits n ++ s) ≡ further n s
   unfolding number-parse
   few n h v s =
@@ -56,10 +47,11 @@ module _ (least : ℕ) (small : least ≤ 1) where
           → Number least n → (s : List ℕ)
           → number-parse least (digits n ++ s) ≡ further n s
       more n h ih v s =
+          let below = few-below n (v .1) in
           let z : n / 10 * 10 + n % 10 ≡ n = omega arith in
           ap (λ (l : List ℕ). number-parse least (l ++ s)) (digits-more n h)
           ∙ ap (number-parse least) (append-snoc (digits (n / 10)) (48 + n % 10) s)
-          ∙ ih (omega arith, omega arith) ((48 + n % 10) ∷ s)
+          ∙ ih (omega arith, few-digits (n / 10) (omega arith)) ((48 + n % 10) ∷ s)
           ∙ one-more (n / 10) (n % 10) s (omega arith) (omega arith) (omega arith)
           ∙ ap (λ (k : ℕ). further k s) z
 
@@ -72,7 +64,7 @@ module _ (least : ℕ) (small : least ≤ 1) where
   further-none n [] h = refl
   further-none n (b ∷ r) h = rw h
 
-  pub number-complete : (n : ℕ) (r : List ℕ) → Number least n → Next NoDigit r → number-parse least (digits n ++ r) ≡ parsed n r
+  number-complete : (n : ℕ) (r : List ℕ) → Number least n → Next NoDigit r → number-parse least (digits n ++ r) ≡ parsed n r
   number-complete n r v h = digits-parsed n v r ∙ further-none n r (ends r h)
     where
       ends : (r : List ℕ) → Next NoDigit r → Next (Ends n) r
@@ -81,7 +73,7 @@ module _ (least : ℕ) (small : least ≤ 1) where
 
   -- a digit more
   grown : (v b : ℕ) → Goes v b → Number least (v * 10 + (b - 48))
-  grown v b g = (omega (arith, g .some), omega (arith, g .few, g .low, g .high))
+  grown v b g = (omega (arith, g .some), few-digits (v * 10 + (b - 48)) (omega (arith, g .few, g .low, g .high)))
 
   digits-grown : (v b : ℕ) (s : List ℕ) → Goes v b → digits (v * 10 + (b - 48)) ++ s ≡ digits v ++ b ∷ s
   digits-grown v b s g =
@@ -112,8 +104,8 @@ module _ (least : ℕ) (small : least ≤ 1) where
 
   digits-first : (b : ℕ) (s : List ℕ) → isFirst least b ≡ true → digits (b - 48) ++ s ≡ b ∷ s
   digits-first b s q =
-      let z : 48 + (b - 48) ≡ b = omega (arith, first-low b q) in
-      ap (λ (l : List ℕ). l ++ s) (digits-one (b - 48) (omega (arith, first-high b q))) ∙ ap (λ (x : ℕ). x ∷ s) z
+      let z : 48 + (b - 48) ≡ b = omega (arith, first-low least b q) in
+      ap (λ (l : List ℕ). l ++ s) (digits-one (b - 48) (omega (arith, first-high least b q))) ∙ ap (λ (x : ℕ). x ∷ s) z
 
   number-parsed : (t : List ℕ) (n : ℕ) (r : List ℕ) → number-parse least t ≡ parsed n r → Parsed t n r
   unfolding number-parse
@@ -123,13 +115,13 @@ module _ (least : ℕ) (small : least ≤ 1) where
       go : (x : Bool) → isFirst least b ≡ x → cond x (further (b - 48) s) (stopped 0) ≡ parsed n r → Parsed (b ∷ s) n r
       go true q i =
           subst (λ (t : List ℕ). Parsed t n r) (digits-first b s q)
-          (further-sound s (b - 48) n r (omega (arith, first-low b q), omega (arith, first-high b q)) i)
+          (further-sound s (b - 48) n r (omega (arith, first-low least b q), few-digits (b - 48) (omega (arith, first-high least b q))) i)
       go false q i = absurd (not-both (sym i))
 
-  pub number-sound : (t : List ℕ) (n : ℕ) (r : List ℕ) → number-parse least t ≡ parsed n r → Number least n × (t ≡ digits n ++ r)
+  number-sound : (t : List ℕ) (n : ℕ) (r : List ℕ) → number-parse least t ≡ parsed n r → Number least n × (t ≡ digits n ++ r)
   number-sound t n r e = let w = number-parsed t n r e in (w .number, w .same)
 
-  pub number-ahead : (t : List ℕ) (n : ℕ) (r s : List ℕ) → number-parse least t ≡ parsed n r → take 1 s ≡ take 1 r
+  number-ahead : (t : List ℕ) (n : ℕ) (r s : List ℕ) → number-parse least t ≡ parsed n r → take 1 s ≡ take 1 r
       → number-parse least (digits n ++ s) ≡ parsed n s
   number-ahead t n r s e h =
       let w = number-parsed t n r e in
@@ -154,24 +146,20 @@ module _ (least : ℕ) (small : least ≤ 1) where
       go true q i = absurd (further-never s (b - 48) n i)
       go false q i = (same-place i, q)
 
-  pub number-viable : (t : List ℕ) (n : ℕ) → number-parse least t ≡ stopped n → (n ≤ length t) × Begins (Number least) digits (take n t)
-  number-viable t n e = begins-none least (omega arith, omega arith) t n (number-stopped t n e .0)
+  least-number : Number least least
+  least-number = (omega arith, few-digits least (omega arith))
 
-  pub number-stable : (t : List ℕ) (n : ℕ) (s : List ℕ) → number-parse least t ≡ stopped n → n < length t
+  number-viable : (t : List ℕ) (n : ℕ) → number-parse least t ≡ stopped n → (n ≤ length t) × Begins (Number least) digits (take n t)
+  number-viable t n e = begins-none least least-number t n (number-stopped t n e .0)
+
+  number-stable : (t : List ℕ) (n : ℕ) (s : List ℕ) → number-parse least t ≡ stopped n → n < length t
       → number-parse least (take (suc n) t ++ s) ≡ stopped n
   unfolding number-parse
   number-stable [] n s e h = absurd (omega arith)
   number-stable (b ∷ t) n s e h = let w = number-stopped (b ∷ t) n e in rw (w .1) (ap (λ (k : ℕ). stopped k) (sym (w .0)))
 
-  pub least-number : Number least least
-  least-number = (omega arith, omega arith)
-
-  abbrev pub number : Form ℕ
-  number = record {
-    Valid = Number least;
-    text = digits;
-    Follow = NoDigit;
-    parse = number-parse least;
+  pub number-laws : Laws (number least)
+  number-laws = record {
     some = least;
     some-valid = least-number;
     complete = number-complete;

@@ -1,13 +1,9 @@
--- What parsing at the beginning of a text finds, and how it is carried on. Assumes nothing.
+-- What parsing finds, told apart, and what it was before it was carried on. Assumes nothing.
 use Prim.Native.Nat.{ℕ, _+_}
 use native.Mathlib.Omega.{arith}
 use mathlib.Core.List.{List}
 use mathlib.Core.Path.{_≡_, refl, sym, ap}
-
--- a value and the text after it, or the place from which no text of the form goes on as this one does
-pub data Parse (A : Type 0) : Type 0 where
-  parsed : A → List ℕ → Parse A
-  stopped : ℕ → Parse A
+use Rattle.forms.specs.Form.{Parse, parsed, stopped, after}
 
 module _ {A : Type 0} where
   pub not-both : {a : A} {r : List ℕ} {n : ℕ} → parsed a r ≡ stopped n → ⊥
@@ -22,16 +18,11 @@ module _ {A : Type 0} where
   pub same-rest : {a b : A} {r s : List ℕ} → parsed a r ≡ parsed b s → r ≡ s
   same-rest e = cc
 
--- after k bytes: a value is carried on by f, and a place is k further on
 module _ {A B : Type 0} (k : ℕ) (f : A → B) where
-  abbrev pub after : Parse A → Parse B
-  after (parsed a r) = parsed (f a) r
-  after (stopped n) = stopped (k + n)
-
-  pub after-parsed : (y : Parse A) {b : B} {r : List ℕ} → after y ≡ parsed b r → (a : A) × (y ≡ parsed a r) × (f a ≡ b)
+  pub after-parsed : (y : Parse A) {b : B} {r : List ℕ} → after k f y ≡ parsed b r → (a : A) × (y ≡ parsed a r) × (f a ≡ b)
   after-parsed (parsed a s) e = (a, ap (λ (z : List ℕ). parsed a z) (same-rest e), same-value e)
   after-parsed (stopped n) e = absurd (not-both (sym e))
 
-  pub after-stopped : (y : Parse A) {n : ℕ} → after y ≡ stopped n → (m : ℕ) × (y ≡ stopped m) × (n ≡ k + m)
+  pub after-stopped : (y : Parse A) {n : ℕ} → after k f y ≡ stopped n → (m : ℕ) × (y ≡ stopped m) × (n ≡ k + m)
   after-stopped (parsed a s) e = absurd (not-both e)
   after-stopped (stopped m) e = (m, refl, same-place e)

@@ -8,22 +8,22 @@ use borrow.Author.Tests.{eqb-true, eqb-false}
 use lib.ListN.{length, drop, length-drop}
 use Rattle.lists.specs.Joined.{joined}
 use Rattle.lists.proofs.Tests.{both-left, both-right, not-is}
-use Rattle.forms.proofs.Parse.{Parse, parsed, stopped, after}
-use Rattle.forms.proofs.Form.{Form, startsWith}
-use Rattle.forms.proofs.Many.{FirstByte, many, many-within, then-more, none-left, no-item, with-item, enough}
-use Rattle.forms.proofs.Some.{one-or-more, first-and-more, item-follows, listed, split, same-items, OneOrMore}
-use Rattle.forms.proofs.Place.{Found, Stops, Gives, Reads, wide, valid, reads-both, reads-via, reads-within, reads-from, reads-found, reads-still}
+use Rattle.forms.specs.Form.{Parse, parsed, stopped, after, Form}
+use Rattle.forms.specs.Tests.{startsWith}
+use Rattle.forms.specs.Combined.{sequence}
+use Rattle.forms.specs.Many.{then-more, many-within, many, OneOrMore, one-or-more}
+use Rattle.forms.specs.Place.{Found, Stops, Gives, Reads}
+use Rattle.forms.proofs.Form.{Laws}
+use Rattle.forms.proofs.Many.{FirstByte, none-left, no-item, with-item, enough}
+use Rattle.forms.proofs.Place.{wide, valid, reads-both, reads-via, reads-within, reads-from, reads-found, reads-still}
 
-module _ {A : Type 0} (x : ℕ) (p : Form A) (heads : FirstByte x p) (again : p .Follow x) (t : List ℕ) where
+module _ {A : Type 0} (x : ℕ) (p : Form A) (P : Laws p) (heads : FirstByte x p) (t : List ℕ) where
   abbrev M : Form (List A)
-  M = many x p heads again
-
-  abbrev S : Form (List A)
-  S = one-or-more x p heads again
+  M = many x p
 
   -- an item takes at least a byte
   pub moves : {i e : ℕ} {a : A} → Found p t i a e → i < e
-  moves {a = a} f = omega (arith, wide p t f, ap length (heads a (valid p t f) .1))
+  moves {a = a} f = omega (arith, wide P t f, ap length (heads a (valid P t f) .1))
 
   -- where the next byte begins an item, the item is parsed and then the others
   item-first : (i : ℕ) (y : Parse A) → startsWith x (drop i t) ≡ true → p .parse (drop i t) ≡ y
@@ -33,14 +33,14 @@ module _ {A : Type 0} (x : ℕ) (p : Form A) (heads : FirstByte x p) (again : p 
       go : (s : List ℕ) → startsWith x s ≡ true → p .parse s ≡ y
           → (k : ℕ) × (length s ≡ suc k) × (M .parse s ≡ then-more x p (λ r. many-within x p k r) y)
       go [] h e = absurd (true≢false (sym h))
-      go (b ∷ s) h e = (length s, refl, with-item x p heads (length s) b s y (eqb-true b x h) e)
+      go (b ∷ s) h e = (length s, refl, with-item x p P heads (length s) b s y (eqb-true b x h) e)
 
   then-others : (i e : ℕ) (a : A) → startsWith x (drop i t) ≡ true → Found p t i a e
       → M .parse (drop i t) ≡ after (length (p .text a)) (λ xs. a ∷ xs) (M .parse (drop e t))
   then-others i e a h f =
       let g = item-first i (parsed a (drop e t)) h (f .finds) in
       let shorter : length (drop e t) ≤ g .0 = omega (arith, g .1, length-drop i t, length-drop e t, moves f, f .to) in
-      g .2 ∙ ap (after (length (p .text a)) (λ xs. a ∷ xs)) (enough x p heads (g .0) (length (drop e t)) (drop e t) shorter (omega arith))
+      g .2 ∙ ap (after (length (p .text a)) (λ xs. a ∷ xs)) (enough x p P heads (g .0) (length (drop e t)) (drop e t) shorter (omega arith))
 
   more-items : (i : ℕ) (a : A) (e : ℕ) (mid : Bool) (xs : List A) (g : ℕ) (stop : Bool) → startsWith x (drop i t) ≡ true
       → Gives p t i a e mid → Reads M t e mid xs g stop
@@ -49,7 +49,7 @@ module _ {A : Type 0} (x : ℕ) (p : Form A) (heads : FirstByte x p) (again : p 
       record
       { finds = then-others i e a h f ∙ ap (after (length (p .text a)) (λ ys. a ∷ ys)) (m .finds); from = omega (arith, f .from, m .from); to = m .to }
   more-items i a e false xs g true h f m =
-      let z : length (p .text a) + (g - e) ≡ g - i = omega (arith, wide p t f, m .from) in
+      let z : length (p .text a) + (g - e) ≡ g - i = omega (arith, wide P t f, m .from) in
       record {
         finds = then-others i e a h f ∙ ap (after (length (p .text a)) (λ ys. a ∷ ys)) (m .finds) ∙ ap (λ (n : ℕ). stopped n) z;
         from = omega (arith, f .from, m .from);
@@ -115,8 +115,7 @@ module _ {A : Type 0} (x : ℕ) (p : Form A) (heads : FirstByte x p) (again : p 
   -- one item, and then the others
   pub first-then : (i : ℕ) (before : Bool) (a : A) (e : ℕ) (mid : Bool) (xs : List A) (g : ℕ) (stop : Bool) → Reads p t i before a e mid
       → Reads M t e mid xs g stop
-      → Reads S t i before (a ∷ xs) g stop
+      → Reads (one-or-more x p) t i before (a ∷ xs) g stop
   first-then i before a e mid xs g stop r m =
-      reads-via (first-and-more x p heads again) (listed x p heads again) (split x p heads again) (OneOrMore x p heads again)
-      (joined (p .text)) (same-items x p heads again) t i before (a, xs) g stop
-      (reads-both p M (item-follows x p heads again) t i before a e mid xs g stop r m)
+      reads-via (sequence p M) (λ y. y .0 ∷ y .1) (OneOrMore x p) (joined (p .text)) t i before (a, xs) g stop
+      (reads-both P M t i before a e mid xs g stop r m)

@@ -1,39 +1,24 @@
--- A number that may have `-` before it, never before 0. Assumes nothing.
-use Prim.Native.Nat.{ℕ, zero, suc, _≤_, _<_}
+-- The laws of a number that may have `-` before it. Assumes nothing.
+use Prim.Native.Nat.{ℕ, zero, suc}
 use native.Mathlib.Omega.{arith}
 use mathlib.Core.Logic.{_⊎_, inl, inr}
 use mathlib.Core.Path.{_≡_, refl}
-use lib.IntN.{ℤ, pos, negsuc, negℤ, natAbs}
+use lib.IntN.{ℤ, pos, negsuc}
 use Rattle.forms.specs.Digits.{signedDigits}
+use Rattle.forms.specs.Number.{number}
+use Rattle.forms.specs.Signed.{minus-or-none, integer, Integer, signed}
 use Rattle.forms.proofs.Digits.{first}
-use Rattle.forms.proofs.Form.{Form}
-use Rattle.forms.proofs.Number.{number}
-use Rattle.forms.proofs.Either.{either, Apart}
-use Rattle.forms.proofs.Via.{via, Same}
+use Rattle.forms.proofs.Form.{Laws}
+use Rattle.forms.proofs.Number.{number-laws}
+use Rattle.forms.proofs.Either.{Apart, either-laws}
+use Rattle.forms.proofs.Via.{Same, via-laws}
 
-pub from-0 : 0 ≤ 1
-from-0 = omega arith
-
-pub from-1 : 1 ≤ 1
-from-1 = omega arith
-
-pub no-minus : Apart 45 (number 0 from-0)
+no-minus : Apart 45 (number 0)
 no-minus n v = let f = first n in (f .byte, f .rest, f .is, λ e. omega (arith, f .low))
 
--- `-` and a number from 1 on, or a number
-abbrev pub minus-or-none : Form (ℕ ⊎ ℕ)
-minus-or-none = either 45 (number 1 from-1) (number 0 from-0) no-minus
-
-abbrev pub integer : ℕ ⊎ ℕ → ℤ
-integer (inl n) = negℤ (pos n)
-integer (inr n) = pos n
-
-abbrev pub sides : ℤ → ℕ ⊎ ℕ
+abbrev sides : ℤ → ℕ ⊎ ℕ
 sides (pos n) = inr n
 sides (negsuc n) = inl (suc n)
-
-abbrev pub Integer : ℤ → Type 0
-Integer z = natAbs z < 10000000000000
 
 to-valid : (z : ℤ) → Integer z → minus-or-none .Valid (sides z)
 to-valid (pos n) v = (omega arith, v)
@@ -54,8 +39,8 @@ same-text (inl zero) v = absurd (omega (arith, v .0))
 same-text (inl (suc n)) v = refl
 same-text (inr n) v = refl
 
-pub same-integers : Same minus-or-none integer sides Integer signedDigits
+same-integers : Same minus-or-none integer sides Integer signedDigits
 same-integers = record { to-valid = to-valid; back = back; from-valid = from-valid; same-text = same-text }
 
-abbrev pub signed : Form ℤ
-signed = via minus-or-none integer sides Integer signedDigits same-integers
+pub signed-laws : Laws signed
+signed-laws = via-laws (either-laws (number-laws 1 (omega arith)) (number-laws 0 (omega arith)) no-minus) same-integers

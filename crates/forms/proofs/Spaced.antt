@@ -1,96 +1,51 @@
--- Numbers with one space between two of them. Assumes nothing.
-use Prim.Native.Nat.{ℕ, zero, suc, _≤_, _<_}
+-- The laws of numbers with one space between two of them. Assumes nothing.
+use Prim.Native.Nat.{ℕ, zero, suc, _<_}
 use native.Mathlib.Omega.{arith}
 use mathlib.Core.Bool.{Bool}
 use mathlib.Core.List.{List, _++_}
 use mathlib.Core.Path.{_≡_, refl, ap₂}
-use lib.ListN.{length, getD, set}
+use lib.ListN.{set}
 use lib.Seq.{getD-set-other}
 use Rattle.forms.specs.Bytes.{ascii}
 use Rattle.forms.specs.Digits.{digits}
-use Rattle.forms.proofs.Digits.{few-digits, few-below}
-use Rattle.forms.proofs.DigitTests.{NoDigit}
-use Rattle.forms.proofs.Form.{Form, any}
-use Rattle.forms.proofs.Word.{word}
-use Rattle.forms.proofs.Number.{number}
-use Rattle.forms.proofs.Signed.{from-0}
-use Rattle.forms.proofs.Sequence.{sequence, Follows}
-use Rattle.forms.proofs.Via.{via, Same}
-use Rattle.forms.proofs.Place.{Reads, reads-both, reads-via}
+use Rattle.forms.specs.Form.{Form}
+use Rattle.forms.specs.Tests.{NoDigit}
+use Rattle.forms.specs.Word.{word}
+use Rattle.forms.specs.Number.{number}
+use Rattle.forms.specs.Combined.{sequence}
+use Rattle.forms.specs.Spaced.{spaced, Numbers, numbers, numbersIn}
+use Rattle.forms.specs.Place.{Reads}
+use Rattle.forms.proofs.Form.{Laws, any}
+use Rattle.forms.proofs.Word.{word-laws}
+use Rattle.forms.proofs.Number.{number-laws}
+use Rattle.forms.proofs.Sequence.{sequence-laws}
+use Rattle.forms.proofs.Via.{Same, via-laws}
+use Rattle.forms.proofs.Place.{reads-both, reads-via}
 
--- a number, by its digits: at most thirteen
-abbrev pub Short : ℕ → Type 0
-Short n = length (digits n) ≤ 13
-
-pub same-number : Same (number 0 from-0) (λ n. n) (λ n. n) Short digits
-same-number = record {
-  to-valid = λ n v. (omega arith, few-below n v);
-  back = λ n v. refl;
-  from-valid = λ n v. few-digits n (v .1);
-  same-text = λ n v. refl;
-}
-
-abbrev pub plain : Form ℕ
-plain = via (number 0 from-0) (λ n. n) (λ n. n) Short digits same-number
-
--- a form, a space and a number
-module _ {A : Type 0} (p : Form A) (may : p .Follow 32) where
-  pub space-after : Follows p (word (ascii " "))
-  space-after b r v h = may
-
-  pub number-after : Follows (sequence p (word (ascii " ")) space-after) plain
-  number-after b r v h = any (digits b ++ r)
-
+module _ {A : Type 0} {p : Form A} (P : Laws p) where
   abbrev parts : Form ((A × Unit {0}) × ℕ)
-  parts = sequence (sequence p (word (ascii " ")) space-after) plain number-after
+  parts = sequence (sequence p (word (ascii " "))) (number 0)
 
-  abbrev both : (A × Unit {0}) × ℕ → A × ℕ
-  both x = (x .0 .0, x .1)
-
-  abbrev apart : A × ℕ → (A × Unit {0}) × ℕ
-  apart y = ((y .0, tt), y .1)
-
-  abbrev Valid : A × ℕ → Type 0
-  Valid y = p .Valid (y .0) × Short (y .1)
-
-  abbrev text : A × ℕ → List ℕ
-  text y = p .text (y .0) ++ ascii " " ++ digits (y .1)
-
-  pub same-further : Same parts both apart Valid text
-  same-further = record {
+  same-spaced : Same parts (λ x. (x .0 .0, x .1)) (λ y. ((y .0, tt), y .1)) (spaced p .Valid) (spaced p .text)
+  same-spaced = record {
     to-valid = λ y v. ((v .0, tt), v .1);
     back = λ y v. refl;
     from-valid = λ x v. (v .0 .0, v .1);
     same-text = λ x v. refl;
   }
 
-  abbrev further : Form (A × ℕ)
-  further = via parts both apart Valid text same-further
+  spaced-laws : p .Follow 32 → Laws (spaced p)
+  spaced-laws may =
+      via-laws (sequence-laws (sequence-laws P (word-laws (ascii " ")) (λ b r v h. may)) (number-laws 0 (omega arith)) (λ b r v h. any (digits b ++ r))) same-spaced
 
--- one number, and n further ones
-abbrev pub Numbers : ℕ → Type 0
-Numbers zero = ℕ
-Numbers (suc n) = Numbers n × ℕ
+-- anything but a digit may follow
+pub numbers-end : (n b : ℕ) → NoDigit b → numbers n .Follow b
+numbers-end zero b h = h
+numbers-end (suc n) b h = h
 
--- a form after which anything but a digit may stand
-record Ended (A : Type 0) : Type 1 where
-  pub form : Form A
-  pub ends : (b : ℕ) → NoDigit b → form .Follow b
-
-pub no-digit : NoDigit 32
-no-digit l k = omega arith
-
-abbrev spaced : (n : ℕ) → Ended (Numbers n)
-spaced zero = record { form = plain; ends = λ b h. h }
-spaced (suc n) = record { form = further (spaced n .form) (spaced n .ends 32 no-digit); ends = λ b h. h }
-
-abbrev pub numbers : (n : ℕ) → Form (Numbers n)
-numbers n = spaced n .form
-
--- as code keeps them
-abbrev pub numbersIn : (n : ℕ) → List ℕ → Numbers n
-numbersIn zero xs = getD xs 0 0
-numbersIn (suc n) xs = (numbersIn n xs, getD xs (suc n) 0)
+pub numbers-laws : (n : ℕ) → Laws (numbers n)
+numbers-laws zero = number-laws 0 (omega arith)
+numbers-laws (suc n) = spaced-laws (numbers-laws n) (numbers-end n 32 (λ l k. omega arith))
 
 pub numbers-kept : (n k v : ℕ) (xs : List ℕ) → n < k → numbersIn n (set xs k v) ≡ numbersIn n xs
 numbers-kept zero k v xs h = getD-set-other xs k 0 v 0 (omega arith)
@@ -99,17 +54,14 @@ numbers-kept (suc n) k v xs h =
 
 -- read one after the other
 module _ (t : List ℕ) where
-  pub reads-plain : (i : ℕ) (before : Bool) (n e : ℕ) (stop : Bool) → Reads (number 0 from-0) t i before n e stop → Reads plain t i before n e stop
-  reads-plain i before n e stop x = reads-via (number 0 from-0) (λ n. n) (λ n. n) Short digits same-number t i before n e stop x
-
   pub reads-further : (n i : ℕ) (before : Bool) (x : Numbers n) (e₀ : ℕ) (mid₀ : Bool) (e₁ : ℕ) (mid₁ : Bool) (v e : ℕ) (stop : Bool)
       → Reads (numbers n) t i before x e₀ mid₀
       → Reads (word (ascii " ")) t e₀ mid₀ tt e₁ mid₁
-      → Reads (number 0 from-0) t e₁ mid₁ v e stop
+      → Reads (number 0) t e₁ mid₁ v e stop
       → Reads (numbers (suc n)) t i before (x, v) e stop
   reads-further n i before x e₀ mid₀ e₁ mid₁ v e stop a b c =
-      let p = numbers n in
-      let may = spaced n .ends 32 no-digit in
-      reads-via (parts p may) (both p may) (apart p may) (Valid p may) (text p may) (same-further p may) t i before ((x, tt), v) e stop
-      (reads-both (sequence p (word (ascii " ")) (space-after p may)) plain (number-after p may) t i before (x, tt) e₁ mid₁ v e stop
-      (reads-both p (word (ascii " ")) (space-after p may) t i before x e₀ mid₀ tt e₁ mid₁ a b) (reads-plain e₁ mid₁ v e stop c))
+      let P = numbers-laws n in
+      let space = word (ascii " ") in
+      let both = sequence-laws P (word-laws (ascii " ")) (λ b r v h. numbers-end n 32 (λ l k. omega arith)) in
+      reads-via (parts P) (λ x. (x .0 .0, x .1)) (numbers (suc n) .Valid) (numbers (suc n) .text) t i before ((x, tt), v) e stop
+      (reads-both both (number 0) t i before (x, tt) e₁ mid₁ v e stop (reads-both P space t i before x e₀ mid₀ tt e₁ mid₁ a b) c)

@@ -9,19 +9,20 @@ use lib.Dec.{leb}
 use lib.ListN.{length, take, drop, length-append, take-append-drop}
 use lib.Seq.{take-take, take-append-add, take-append-seam}
 use Rattle.forms.specs.Shape.{TextOf, Begins, Longest, Reading, of-shape, not-of-shape, answer}
-use Rattle.forms.proofs.Parse.{Parse, parsed, stopped, not-both, same-value, same-rest}
-use Rattle.forms.proofs.Form.{Form}
+use Rattle.forms.specs.Form.{Parse, parsed, stopped, Form}
+use Rattle.forms.proofs.Parse.{not-both, same-value, same-rest}
+use Rattle.forms.proofs.Form.{Laws}
 
-module _ {A : Type 0} (p : Form A) where
+module _ {A : Type 0} {p : Form A} (P : Laws p) where
   abbrev pub Whole : List ℕ → Type 0
   Whole = Reading (p .Valid) (p .text)
 
   -- the text of a value is parsed to its end
   pub text-parsed : (a : A) → p .Valid a → p .parse (p .text a) ≡ parsed a []
-  text-parsed a v = ap (p .parse) (sym (append-nil (p .text a))) ∙ p .complete a [] v tt
+  text-parsed a v = ap (p .parse) (sym (append-nil (p .text a))) ∙ P .complete a [] v tt
 
   pub parsed-text : (t : List ℕ) (a : A) → p .parse t ≡ parsed a [] → TextOf (p .Valid) (p .text) t a
-  parsed-text t a e = let s = p .sound t a [] e in record { well-formed = s .0; is = s .1 ∙ append-nil (p .text a) }
+  parsed-text t a e = let s = P .sound t a [] e in record { well-formed = s .0; is = s .1 ∙ append-nil (p .text a) }
 
   -- a beginning of a beginning
   shorter : (t : List ℕ) (m n : ℕ) → m ≤ n → Begins (p .Valid) (p .text) (take n t) → Begins (p .Valid) (p .text) (take m t)
@@ -49,9 +50,9 @@ module _ {A : Type 0} (p : Form A) where
   module _ (t : List ℕ) (n : ℕ) (e : p .parse t ≡ stopped n) where
     pub stopped-longest : Longest (p .Valid) (p .text) t n
     stopped-longest =
-        let v = p .viable t n e in
+        let v = P .viable t n e in
         one-more t n (v .0) (v .1)
-        (λ h b. not-both (sym (text-parsed (b .value) (b .well-formed)) ∙ ap (p .parse) (b .goes-on) ∙ p .stable t n (b .more) e h))
+        (λ h b. not-both (sym (text-parsed (b .value) (b .well-formed)) ∙ ap (p .parse) (b .goes-on) ∙ P .stable t n (b .more) e h))
 
     pub stopped-none : (a : A) → TextOf (p .Valid) (p .text) t a → ⊥
     stopped-none a it = not-both (sym (text-parsed a (it .well-formed)) ∙ ap (p .parse) (sym (it .is)) ∙ e)
@@ -59,7 +60,7 @@ module _ {A : Type 0} (p : Form A) where
   -- where it ends before the text does
   module _ (t : List ℕ) (a : A) (c : ℕ) (r : List ℕ) (e : p .parse t ≡ parsed a (c ∷ r)) where
     whole : t ≡ p .text a ++ c ∷ r
-    whole = p .sound t a (c ∷ r) e .1
+    whole = P .sound t a (c ∷ r) e .1
 
     -- another text of the shape that begins with this one and its next byte
     other : (b : Begins (p .Valid) (p .text) (take (suc (length (p .text a))) t)) → ⊥
@@ -70,7 +71,7 @@ module _ {A : Type 0} (p : Form A) where
         ap (λ (k : ℕ). take k t) one ∙ ap (take (n + 1)) whole ∙ take-append-add (p .text a) (c ∷ r) 1 in
         let joined : p .text (b .value) ≡ p .text a ++ c ∷ b .more =
         b .goes-on ∙ ap (λ (s : List ℕ). s ++ b .more) front ∙ append-assoc (p .text a) (c ∷ []) (b .more) in
-        let both = sym (text-parsed (b .value) (b .well-formed)) ∙ ap (p .parse) joined ∙ p .ahead t a (c ∷ r) (c ∷ b .more) e refl in
+        let both = sym (text-parsed (b .value) (b .well-formed)) ∙ ap (p .parse) joined ∙ P .ahead t a (c ∷ r) (c ∷ b .more) e refl in
         omega (arith, ap length (same-rest both))
 
     pub ended-longest : Longest (p .Valid) (p .text) t (length (p .text a))
@@ -79,7 +80,7 @@ module _ {A : Type 0} (p : Form A) where
         let l : length t ≡ n + length (c ∷ r) = ap length whole ∙ length-append (p .text a) (c ∷ r) in
         one-more t n (omega arith)
         (record
-        { value = a; well-formed = p .sound t a (c ∷ r) e .0; more = []; goes-on = sym (append-nil (p .text a)) ∙ ap (λ (s : List ℕ). s ++ []) (sym (ap (take n) whole ∙ take-append-seam (p .text a) (c ∷ r))) })
+        { value = a; well-formed = P .sound t a (c ∷ r) e .0; more = []; goes-on = sym (append-nil (p .text a)) ∙ ap (λ (s : List ℕ). s ++ []) (sym (ap (take n) whole ∙ take-append-seam (p .text a) (c ∷ r))) })
         (λ h b. other b)
 
     pub ended-none : (b : A) → TextOf (p .Valid) (p .text) t b → ⊥

@@ -1,4 +1,4 @@
--- A fixed word. Assumes nothing.
+-- The laws of a fixed word. Assumes nothing.
 use Prim.Native.Nat.{ℕ, suc, _+_, _≤_, _<_}
 use native.Mathlib.Omega.{arith}
 use mathlib.Core.Bool.{Bool, true, false, cond}
@@ -7,16 +7,13 @@ use mathlib.Core.Path.{_≡_, refl, sym, ap, ap₂, _∙_}
 use borrow.Author.Tests.{eq-eqb, eqb-true}
 use lib.Dec.{eqb}
 use lib.ListN.{length, take}
-use Rattle.forms.proofs.Parse.{Parse, parsed, stopped, not-both, same-place, same-rest, after, after-parsed, after-stopped}
-use Rattle.forms.proofs.Form.{Form}
+use Rattle.forms.specs.Form.{Parse, parsed, stopped, after}
+use Rattle.forms.specs.Word.{word-parse, word}
+use Rattle.forms.proofs.Parse.{not-both, same-place, same-rest, after-parsed, after-stopped}
+use Rattle.forms.proofs.Form.{Laws}
 
-abbrev pub on : Parse (Unit {0}) → Parse (Unit {0})
+abbrev on : Parse (Unit {0}) → Parse (Unit {0})
 on = after 1 (λ x. x)
-
-unfoldable pub word-parse : List ℕ → List ℕ → Parse (Unit {0})
-word-parse [] t = parsed tt t
-word-parse (c ∷ w) [] = stopped 0
-word-parse (c ∷ w) (b ∷ t) = cond (eqb b c) (on (word-parse w t)) (stopped 0)
 
 pub word-complete : (w r : List ℕ) → word-parse w (w ++ r) ≡ parsed tt r
 unfolding word-parse
@@ -71,12 +68,8 @@ word-stable (c ∷ w) (b ∷ t) n s e h = go (word-stable w t) (eqb b c) refl e
         rw (q, z, ih (m .0) s (m .1) (omega (arith, m .2))) (ap (λ (k : ℕ). stopped k) (sym (m .2) ∙ z))
     go ih false q i = rw q i
 
-abbrev pub word : List ℕ → Form (Unit {0})
-word w = record {
-  Valid = λ _. Unit {0};
-  text = λ _. w;
-  Follow = λ _. Unit {0};
-  parse = word-parse w;
+pub word-laws : (w : List ℕ) → Laws (word w)
+word-laws w = record {
   some = tt;
   some-valid = tt;
   complete = λ a r v h. word-complete w r;

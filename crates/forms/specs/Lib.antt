@@ -1,3 +1,12 @@
 pub mod Bytes
 pub mod Digits
 pub mod Shape
+pub mod Form
+pub mod Tests
+pub mod Word
+pub mod Number
+pub mod Combined
+pub mod Many
+pub mod Signed
+pub mod Spaced
+pub mod Place

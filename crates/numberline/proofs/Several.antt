@@ -7,10 +7,10 @@ use mathlib.Core.Path.{_≡_, refl, sym, ap₂, _∙_, subst}
 use lib.ListN.{length, getD, set, length-set}
 use lib.Seq.{getD-set-same}
 use Rattle.forms.specs.Bytes.{ascii}
-use Rattle.forms.proofs.Word.{word}
-use Rattle.forms.proofs.Number.{number}
-use Rattle.forms.proofs.Signed.{from-0}
-use Rattle.forms.proofs.Spaced.{Numbers, numbers, numbersIn, numbers-kept, reads-plain, reads-further}
+use Rattle.forms.specs.Word.{word}
+use Rattle.forms.specs.Number.{number}
+use Rattle.forms.specs.Spaced.{Numbers, numbers, numbersIn}
+use Rattle.forms.proofs.Spaced.{numbers-kept, reads-further}
 use Rattle.scanner.specs.declared.Cursor.{Cursor}
 use Rattle.scanner.specs.Scans.{Scans}
 
@@ -19,7 +19,7 @@ pub record Several (t : List ℕ) (first : ℕ) (next₀ : Cursor) (further : �
   pub few : i ≤ further
   pub four : length values ≡ 4
   pub within : next .at ≤ length t
-  pub read : (from : Cursor) → Scans (number 0 from-0) t from first next₀ → Scans (numbers i) t from (numbersIn i values) next
+  pub read : (from : Cursor) → Scans (number 0) t from first next₀ → Scans (numbers i) t from (numbersIn i values) next
 
 abbrev four-of : List ℕ → List ℕ
 four-of xs = getD xs 0 0 ∷ getD xs 1 0 ∷ getD xs 2 0 ∷ getD xs 3 0 ∷ []
@@ -38,13 +38,13 @@ module _ (t : List ℕ) (next₀ : Cursor) (further : ℕ) (values : List ℕ) (
     few = omega arith;
     four = four;
     within = l;
-    read = λ from s. reads-plain t (from .at) (from .stopped) (getD values 0 0) (next₀ .at) (next₀ .stopped) s;
+    read = λ from s. s;
   }
 
 module _ (t : List ℕ) (first : ℕ) (next₀ : Cursor) (further : ℕ) (values : List ℕ) (next : Cursor) (i : ℕ) (so-far : Several t first next₀ further values next i) where
   -- one more
   pub several-next : i < further → further ≤ 3 → (mid : Cursor) → Scans (word (ascii " ")) t next tt mid → (v : ℕ) (after : Cursor)
-      → Scans (number 0 from-0) t mid v after
+      → Scans (number 0) t mid v after
       → after .at ≤ length t
       → Several t first next₀ further (set values (i + 1) v) after (i + 1)
   several-next more enough mid space v after s l = record {
@@ -65,7 +65,7 @@ module _ (t : List ℕ) (first : ℕ) (next₀ : Cursor) (further : ℕ) (values
   }
 
   -- all, taken out of the array
-  pub several-done : further ≤ i → (from : Cursor) → Scans (number 0 from-0) t from first next₀
+  pub several-done : further ≤ i → (from : Cursor) → Scans (number 0) t from first next₀
       → Scans (numbers further) t from (numbersIn further (four-of values)) next
   several-done h from begun =
       let all : i ≡ further = omega (arith, so-far .few) in

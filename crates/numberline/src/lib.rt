@@ -1,10 +1,10 @@
-// Numbers with one space between two of them, and a line that has them between two words. The functions are pub for the readers of texts: a
-// line with a number more is parsed by the same call with a larger count.
+// Numbers with one space between two of them, and a line that has them between two words. A line with a number more is parsed by the
+// same call with a larger count.
 ghost use Prim.Native.Nat.{_≤_};
 ghost use lib.ListN.{length};
-ghost use Rattle.forms.proofs.Spaced as Spaced;
+ghost use Rattle.forms.specs.Spaced as Spaced;
 ghost use Rattle.scanner.specs.Scans.{Scans};
-ghost use Rattle.numberline.specs.ScansLine.{ScansLine, valuesOf};
+ghost use Rattle.numberline.specs.ScansLine.{LineAsks, ScansLine, valuesOf};
 use scanner::Cursor;
 
 // Up to four numbers, and zeros after them.
@@ -18,8 +18,7 @@ pub struct ParsedNumbers {
 
 // A number and `further` ones, with one space between two of them.
 pub fn spaced(text: &[u8], from: Cursor, further: usize) -> ParsedNumbers
-    requires { ⌜ from .at ≤ length (now text) ⌝ }
-    requires { ⌜ further ≤ 3 ⌝ }
+    requires { ⌜ LineAsks (now text) from further ⌝ }
     ensures { λ r. ⌜ Scans (Spaced.numbers further) (now (text .entry)) from (Spaced.numbersIn further (valuesOf r)) (r .next) ⌝ }
     ensures { λ r. ⌜ r .next .at ≤ length (now (text .entry)) ⌝ }
 {
@@ -46,8 +45,7 @@ pub fn spaced(text: &[u8], from: Cursor, further: usize) -> ParsedNumbers
 
 // The bytes of `start`, such numbers, and the bytes of `close`.
 pub fn line(text: &[u8], from: Cursor, start: &[u8], further: usize, close: &[u8]) -> ParsedNumbers
-    requires { ⌜ from .at ≤ length (now text) ⌝ }
-    requires { ⌜ further ≤ 3 ⌝ }
+    requires { ⌜ LineAsks (now text) from further ⌝ }
     ensures { λ r. ⌜ ScansLine (now (start .entry)) further (now (close .entry)) (now (text .entry)) from (valuesOf r) (r .next) ⌝ }
     ensures { λ r. ⌜ r .next .at ≤ length (now (text .entry)) ⌝ }
 {

@@ -8,10 +8,11 @@ use lib.IntN.{pos, negℤ}
 use lib.ListN.{length, drop}
 use Rattle.lists.proofs.Tests.{both-left, both-right, not-is}
 use Rattle.forms.specs.Digits.{signedDigits}
-use Rattle.forms.proofs.Form.{startsWith}
-use Rattle.forms.proofs.Number.{number}
-use Rattle.forms.proofs.Signed.{signed, from-0, from-1, no-minus, minus-or-none, integer, sides, Integer, same-integers}
-use Rattle.forms.proofs.Place.{Reads, gives-left, gives-right, reads-via}
+use Rattle.forms.specs.Tests.{startsWith}
+use Rattle.forms.specs.Number.{number}
+use Rattle.forms.specs.Signed.{minus-or-none, integer, Integer, signed}
+use Rattle.forms.specs.Place.{Reads}
+use Rattle.forms.proofs.Place.{gives-left, gives-right, reads-via}
 use Rattle.scanner.proofs.Bytes.{starts-within}
 
 module _ (t : List ℕ) (i : ℕ) (before : Bool) where
@@ -19,19 +20,19 @@ module _ (t : List ℕ) (i : ℕ) (before : Bool) where
   pub begins-within : (x : ℕ) → not before && startsWith x (drop i t) ≡ true → i < length t
   begins-within x e = starts-within x t i (both-right (not before) (startsWith x (drop i t)) e)
 
-  pub signed-minus : (n e : ℕ) (stop : Bool) → not before && startsWith 45 (drop i t) ≡ true → Reads (number 1 from-1) t (i + 1) false n e stop
+  pub signed-minus : (n e : ℕ) (stop : Bool) → not before && startsWith 45 (drop i t) ≡ true → Reads (number 1) t (i + 1) false n e stop
       → Reads signed t i before (negℤ (pos n)) e stop
   signed-minus n e stop h g =
       let b = startsWith 45 (drop i t) in
-      reads-via minus-or-none integer sides Integer signedDigits same-integers t i before (inl n) e stop
+      reads-via minus-or-none integer Integer signedDigits t i before (inl n) e stop
       (subst (λ (k : Bool). Reads minus-or-none t i k (inl n) e stop) (sym (not-is before (both-left (not before) b h)))
-      (gives-left 45 (number 1 from-1) (number 0 from-0) no-minus t i n e stop (both-right (not before) b h) g))
+      (gives-left 45 (number 1) (number 0) t i n e stop (both-right (not before) b h) g))
 
-  pub signed-plain : (n e : ℕ) (stop : Bool) → not before && startsWith 45 (drop i t) ≡ false → Reads (number 0 from-0) t i before n e stop
+  pub signed-plain : (n e : ℕ) (stop : Bool) → not before && startsWith 45 (drop i t) ≡ false → Reads (number 0) t i before n e stop
       → Reads signed t i before (pos n) e stop
   signed-plain n e stop h g =
-      reads-via minus-or-none integer sides Integer signedDigits same-integers t i before (inr n) e stop (go before h g)
+      reads-via minus-or-none integer Integer signedDigits t i before (inr n) e stop (go before h g)
     where
-      go : (k : Bool) → not k && startsWith 45 (drop i t) ≡ false → Reads (number 0 from-0) t i k n e stop → Reads minus-or-none t i k (inr n) e stop
+      go : (k : Bool) → not k && startsWith 45 (drop i t) ≡ false → Reads (number 0) t i k n e stop → Reads minus-or-none t i k (inr n) e stop
       go true h g = g
-      go false h g = gives-right 45 (number 1 from-1) (number 0 from-0) no-minus t i n e stop h g
+      go false h g = gives-right 45 (number 1) (number 0) t i n e stop h g

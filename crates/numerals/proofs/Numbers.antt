@@ -8,13 +8,15 @@ use borrow.Author.Tests.{ltb-true, ltb-false}
 use lib.Dec.{ltb}
 use lib.ListN.{length, drop, getD, drop-of-length-le}
 use Rattle.lists.proofs.Slices.{drop-next}
-use Rattle.forms.proofs.Parse.{parsed, stopped}
-use Rattle.forms.proofs.DigitTests.{goesOn, isFirst, beginsNumber, goes}
-use Rattle.forms.proofs.Number.{number, number-parse, further, first-low, first-high}
-use Rattle.forms.proofs.Place.{Found, Stops}
+use Rattle.forms.specs.Form.{parsed, stopped}
+use Rattle.forms.specs.Tests.{goesOn, isFirst, beginsNumber}
+use Rattle.forms.specs.Number.{further, number-parse, number}
+use Rattle.forms.specs.Place.{Found, Stops}
+use Rattle.forms.proofs.DigitTests.{goes}
+use Rattle.forms.proofs.Number.{first-low, first-high}
 use Rattle.scanner.specs.declared.Cursor.{Cursor}
 use Rattle.numerals.specs.declared.ParsedNumber.{ParsedNumber}
-use Rattle.numerals.specs.ScansNumber.{ScansNumber}
+use Rattle.scanner.specs.Scans.{Scans}
 
 -- the first byte, looked at
 module _ (t : List ℕ) (at : ℕ) where
@@ -32,9 +34,9 @@ module _ (t : List ℕ) (at : ℕ) where
       go true q = ltb-true at (length t) q
       go false q = absurd (true≢false (sym e ∙ first-past least (ltb-false at (length t) q)))
 
-module _ (least : ℕ) (small : least ≤ 1) (t : List ℕ) (at : ℕ) where
+module _ (least : ℕ) (t : List ℕ) (at : ℕ) where
   -- no number begins here
-  pub number-none : at ≤ length t → beginsNumber least (drop at t) ≡ false → Stops (number least small) t at at
+  pub number-none : at ≤ length t → beginsNumber least (drop at t) ≡ false → Stops (number least) t at at
   unfolding number-parse
   number-none h e =
       record { finds = go (drop at t) e ∙ ap (λ (k : ℕ). stopped k) (let z : 0 ≡ at - at = omega arith in z); from = omega arith; to = h }
@@ -51,7 +53,7 @@ module _ (least : ℕ) (small : least ≤ 1) (t : List ℕ) (at : ℕ) where
     pub same : number-parse least (drop at t) ≡ further v (drop i t)
 
   pub first-digit : beginsNumber least (drop at t) ≡ true → 48 ≤ getD t at 0
-  first-digit e = omega (arith, first-low least small (getD t at 0) (sym (first-at t at least (first-within t at least e)) ∙ e))
+  first-digit e = omega (arith, first-low least (getD t at 0) (sym (first-at t at least (first-within t at least e)) ∙ e))
 
   pub number-first : (v : ℕ) → beginsNumber least (drop at t) ≡ true → v ≡ getD t at 0 - 48 → Digits v (at + 1)
   unfolding number-parse
@@ -61,12 +63,12 @@ module _ (least : ℕ) (small : least ≤ 1) (t : List ℕ) (at : ℕ) where
       record {
         from = omega arith;
         to = omega arith;
-        few = omega (arith, d, first-high least small (getD t at 0) f);
+        few = omega (arith, d, first-high least (getD t at 0) f);
         same = rw (drop-next t at 0 h, f, d);
       }
 
   module _ (v i : ℕ) (l : Digits v i) where
-    pub number-ends : length t ≤ i → Found (number least small) t at v i
+    pub number-ends : length t ≤ i → Found (number least) t at v i
     unfolding further
     number-ends h = record {
       finds = l .same ∙ ap (further v) (drop-of-length-le t h) ∙ ap (λ (r : List ℕ). parsed v r) (sym (drop-of-length-le t h));
@@ -75,7 +77,7 @@ module _ (least : ℕ) (small : least ≤ 1) (t : List ℕ) (at : ℕ) where
     }
 
     module _ (more : i < length t) where
-      pub number-stops : goesOn v (getD t i 0) ≡ false → Found (number least small) t at v i
+      pub number-stops : goesOn v (getD t i 0) ≡ false → Found (number least) t at v i
       unfolding further
       number-stops e = record {
         finds = l .same ∙ rw (drop-next t i 0 more, e);
@@ -96,4 +98,4 @@ module _ (least : ℕ) (small : least ≤ 1) (t : List ℕ) (at : ℕ) where
 
 -- what `number` answers
 abbrev pub Answered : ℕ → List ℕ → Cursor → ParsedNumber → Type 0
-Answered least t from r = (r .value < 10000000000000) × (ScansNumber least t from (r .value) (r .next) × (r .next .at ≤ length t))
+Answered least t from r = (r .value < 10000000000000) × (Scans (number least) t from (r .value) (r .next) × (r .next .at ≤ length t))

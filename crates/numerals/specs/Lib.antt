@@ -1,1 +1,1 @@
-pub mod ScansNumber
+pub mod NumberAsks

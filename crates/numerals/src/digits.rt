@@ -2,7 +2,7 @@
 ghost use mathlib.Core.Path.{_≡_};
 ghost use Prim.Native.Nat.{_-_, _≤_, _<_};
 ghost use lib.ListN.{drop};
-ghost use Rattle.forms.proofs.DigitTests.{goesOn, beginsNumber};
+ghost use Rattle.forms.specs.Tests.{goesOn, beginsNumber};
 
 // Whether a number that is at least `least` can begin at the place.
 pub fn is_first_at(text: &[u8], at: usize, least: u8) -> bool

@@ -1,14 +1,15 @@
-// The numbers of a text, parsed where they stand. The functions are pub for the readers of texts. Each takes the cursor that the one before
-// it gave, and does nothing once parsing has stopped.
+// The numbers of a text, parsed where they stand. Each function takes the cursor that the one before it gave, and does nothing once
+// parsing has stopped.
 ghost use mathlib.Core.Path.{_≡_};
 ghost use mathlib.Core.Bool.{true, false};
 ghost use Prim.Native.Nat.{_≤_, _<_};
 ghost use lib.ListN.{length};
-ghost use Rattle.forms.proofs.Signed as Signed;
+ghost use Rattle.forms.specs.Number as Number;
+ghost use Rattle.forms.specs.Signed as Signed;
 ghost use Rattle.scanner.specs.Scans.{Scans};
-ghost use Rattle.numerals.specs.ScansNumber.{ScansNumber};
+ghost use Rattle.numerals.specs.NumberAsks.{NumberAsks};
 
-// The parts of a number. The modules are private: what is pub in them serves this crate alone.
+// The parts of a number.
 mod digits;
 mod signs;
 
@@ -27,10 +28,9 @@ pub struct ParsedInteger {
 
 // A number in decimal, from `least` on.
 pub fn number(text: &[u8], from: Cursor, least: u8) -> ParsedNumber
-    requires { ⌜ from .at ≤ length (now text) ⌝ }
-    requires { ⌜ least ≤ 1 ⌝ }
+    requires { ⌜ NumberAsks (now text) from least ⌝ }
     ensures { λ r. ⌜ r .value < 10000000000000 ⌝ }
-    ensures { λ r. ⌜ ScansNumber least (now (text .entry)) from (r .value) (r .next) ⌝ }
+    ensures { λ r. ⌜ Scans (Number.number least) (now (text .entry)) from (r .value) (r .next) ⌝ }
     ensures { λ r. ⌜ r .next .at ≤ length (now (text .entry)) ⌝ }
 {
     if from.stopped {

@@ -1,5 +1,5 @@
 -- What a reading's answer tells of its text. Assumes nothing.
-use Prim.Native.Nat.{ℕ, suc, _+_, _≤_, _<_}
+use Prim.Native.Nat.{ℕ, suc, _≤_, _<_}
 use native.Mathlib.Omega.{arith}
 use mathlib.Core.Bool.{Bool, true, false}
 use mathlib.Core.List.{List}
@@ -20,7 +20,7 @@ use Rattle.forms.proofs.Whole.{one-meaning}
 use Rattle.booktext.specs.BookText.{bookText}
 use Rattle.booktext.specs.WellFormed.{WellFormedBook}
 use Rattle.booktext.specs.Record.{bookRecord}
-use Rattle.booktext.proofs.BookForm.{book, book-reading}
+use Rattle.booktext.proofs.BookForm.{book-laws, book-reading}
 use Rattle.bookreader.specs.declared.BookRead.{BookRead}
 use Rattle.bookreader.specs.Reading.{refusedAnswer, bookAnswer, readOf}
 use Rattle.bookreader.proofs.Answers.{answered, any-reading, read-long, read-other, accepted-answer}
@@ -86,4 +86,4 @@ one-byte-more t n s h b = omega (arith, s .longest .longest (suc n) h b)
 
 -- a text means one book
 pub one-book : (t : List ℕ) (a b : BookEntries) → TextOf WellFormedBook bookText t a → TextOf WellFormedBook bookText t b → a ≡ b
-one-book = one-meaning book
+one-book = one-meaning book-laws

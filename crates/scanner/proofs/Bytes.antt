@@ -7,7 +7,7 @@ use borrow.Author.Tests.{ltb-true, ltb-false}
 use lib.Dec.{ltb, eqb}
 use lib.ListN.{length, drop, getD, drop-of-length-le}
 use Rattle.lists.proofs.Slices.{drop-next}
-use Rattle.forms.proofs.Form.{startsWith}
+use Rattle.forms.specs.Tests.{startsWith}
 
 module _ (x : ℕ) (t : List ℕ) (at : ℕ) where
   pub starts-at : at < length t → startsWith x (drop at t) ≡ eqb (getD t at 0) x

@@ -3,8 +3,9 @@ use Prim.Native.Nat.{ℕ}
 use mathlib.Core.Bool.{true, false}
 use mathlib.Core.List.{List}
 use mathlib.Core.Path.{_≡_, sym, subst}
-use Rattle.forms.proofs.Form.{Form}
-use Rattle.forms.proofs.Place.{Found, Stops, reads-still, reads-going}
+use Rattle.forms.specs.Form.{Form}
+use Rattle.forms.specs.Place.{Found, Stops}
+use Rattle.forms.proofs.Place.{reads-still, reads-going}
 use Rattle.scanner.specs.declared.Cursor.{Cursor}
 use Rattle.scanner.specs.Scans.{Scans}
 

@@ -8,10 +8,10 @@ use mathlib.Core.List.{List, [], _∷_}
 use mathlib.Core.Path.{_≡_, refl, sym, ap, ap₂, _∙_}
 use lib.ListN.{length, drop, getD, drop-of-length-le}
 use lib.Seq.{drop-cons, drop-drop}
-use Rattle.forms.proofs.Parse.{Parse, parsed, stopped, after}
-use Rattle.forms.proofs.Form.{startsWith}
-use Rattle.forms.proofs.Word.{word, word-parse}
-use Rattle.forms.proofs.Place.{Found, Stops}
+use Rattle.forms.specs.Form.{Parse, parsed, stopped, after}
+use Rattle.forms.specs.Tests.{startsWith}
+use Rattle.forms.specs.Word.{word-parse, word}
+use Rattle.forms.specs.Place.{Found, Stops}
 use Rattle.scanner.proofs.Bytes.{starts-within}
 
 abbrev on : ℕ → Parse (Unit {0}) → Parse (Unit {0})

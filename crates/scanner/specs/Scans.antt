@@ -1,8 +1,8 @@
 -- For the contracts of the scanner and of the readers above it: what was parsed from one cursor to the next.
 use Prim.Native.Nat.{ℕ}
 use mathlib.Core.List.{List}
-use Rattle.forms.proofs.Form.{Form}
-use Rattle.forms.proofs.Place.{Reads}
+use Rattle.forms.specs.Form.{Form}
+use Rattle.forms.specs.Place.{Reads}
 use Rattle.scanner.specs.declared.Cursor.{Cursor}
 
 -- from one cursor to the next, p was parsed as the value a

@@ -1,11 +1,11 @@
-// The words of a text, parsed where they stand: nothing of the text is copied. The functions are pub for the readers of
-// texts, which put them together. Each takes the cursor that the one before it gave, and does nothing once parsing has stopped.
+// The words of a text, parsed where they stand: nothing of the text is copied. Each function takes the cursor that the one
+// before it gave, and does nothing once parsing has stopped.
 ghost use mathlib.Core.Path.{_≡_};
 ghost use mathlib.Core.Bool.{true, false, not, _&&_};
 ghost use Prim.Native.Nat.{_≤_};
 ghost use lib.ListN.{length, drop};
-ghost use Rattle.forms.proofs.Form.{startsWith};
-ghost use Rattle.forms.proofs.Word as Word;
+ghost use Rattle.forms.specs.Tests.{startsWith};
+ghost use Rattle.forms.specs.Word as Word;
 ghost use Rattle.scanner.specs.Scans.{Scans};
 
 // Where parsing stands: at the place of the next byte, or stopped there.

@@ -1,7 +1,7 @@
 -- The bidder, the segments and the end of the line, read one after the other. Assumes nothing.
 use mathlib.Core.Path.{ap, _∙_}
 use Rattle.book.specs.declared.Bid.{Bid}
-use Rattle.booktext.proofs.BookForm.{bidOf}
+use Rattle.booktext.specs.BookForm.{bidOf}
 use Rattle.bookrecord.specs.Adding.{withSegments}
 use Rattle.bookrecord.proofs.Kept.{segments-filled, no-segments}
 use Rattle.booklines.proofs.Parts.{bid-scanned}
@@ -9,16 +9,24 @@ use borrow.Author.Needs.{needs}
 use Rattle.booklines.proofs.bid.Statement.{statement}
 use Rattle.booklines.proofs.bid.Tie as tie
 
+-- where the bidder was read, from where the segments were; and where these were, from the end
+abbrev bidder : tie.After-segments → tie.After-bidder
+bidder c = c .before .before .before
+
+abbrev segments : tie.After-word → tie.After-segments
+segments c = c .before .before .before .before
+
 segments-requires : tie.Need-segments-requires
 segments-requires c κs =
     let h = c .before .before .bidder in
-    (h .ensures .1, no-segments (h .ensures .0 .0) (h .result .bid) (h .ensures .0 .1))
+    record { within = h .ensures .1; none = no-segments (h .ensures .0 .0) (h .result .bid) (h .ensures .0 .1) }
 
 returns : tie.Need-returns
 returns c =
-    let a = c .before .before .before .before .before .before .before .before .before .args in
-    let h = c .before .before .before .before .before .before .before .bidder in
-    let s = c .before .before .before .before .segments in
+    let s = segments c .segments in
+    let begun = bidder (segments c) in
+    let h = begun .bidder in
+    let a = begun .before .before .args in
     let xs = s .ensures .0 .0 in (
       (
         bidOf (h .ensures .0 .0) xs,

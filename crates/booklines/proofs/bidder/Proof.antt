@@ -1,7 +1,7 @@
 -- The word and the numbers, read one after the other. Assumes nothing.
-use Rattle.forms.proofs.Spaced.{numbersIn}
+use Rattle.forms.specs.Spaced.{numbersIn}
 use Rattle.booktext.specs.Record.{bidRecord}
-use Rattle.booktext.proofs.BookForm.{bidFurther}
+use Rattle.booktext.specs.BookForm.{bidFurther}
 use Rattle.numberline.specs.ScansLine.{valuesOf}
 use Rattle.booklines.proofs.Parts.{bidder-scanned}
 use borrow.Author.Needs.{needs}
@@ -11,8 +11,9 @@ use Rattle.booklines.proofs.bidder.Tie as tie
 returns : tie.Need-returns
 unfolding bidRecord
 returns c =
-    let a = c .before .before .before .before .before .before .args in
-    let w = c .before .before .before .word in
+    let begun = c .before .before .before in
+    let w = begun .word in
+    let a = begun .before .before .before .args in
     let n = c .before .before .spaced in
     let x = numbersIn bidFurther (valuesOf (n .result)) in (
       (

@@ -1,7 +1,7 @@
 -- The demand's line and the bids, read one after the other; the bids are added to the record of the line. Assumes nothing.
 use mathlib.Core.Path.{ap, _∙_}
 use Rattle.book.specs.declared.Book.{Book}
-use Rattle.booktext.proofs.BookForm.{bookOf}
+use Rattle.booktext.specs.BookForm.{bookOf}
 use Rattle.bookrecord.specs.Adding.{withBids}
 use Rattle.bookrecord.proofs.Kept.{bids-filled, no-bids}
 use Rattle.booklines.proofs.Parts.{book-scanned}
@@ -10,12 +10,15 @@ use Rattle.booklines.proofs.lines.Statement.{statement}
 use Rattle.booklines.proofs.lines.Tie as tie
 
 bids-requires : tie.Need-bids-requires
-bids-requires c κs = let h = c .before .before .demand in (h .ensures .1, no-bids (h .ensures .0 .0) (h .result .book) (h .ensures .0 .1))
+bids-requires c κs =
+    let h = c .before .before .demand in
+    record { within = h .ensures .1; none = no-bids (h .ensures .0 .0) (h .result .book) (h .ensures .0 .1) }
 
 returns : tie.Need-returns
 returns c =
-    let a = c .before .before .before .before .before .args in
-    let h = c .before .before .before .demand in
+    let begun = c .before .before .before in
+    let h = begun .demand in
+    let a = begun .before .before .args in
     let b = c .bids in
     let xs = b .ensures .0 in (
       bookOf (h .ensures .0 .0) xs,

@@ -1,61 +1,74 @@
 -- By cases: too long, stopped, bytes left over, refused by a rule, accepted; each is a law of `readOf` (`Answers`). Assumes nothing.
-use mathlib.Core.Path.{_∙_, subst}
-use Rattle.forms.proofs.Place.{Gives}
-use Rattle.booktext.proofs.BookForm.{book}
+use Prim.Native.Nat.{ℕ, _≤_}
+use mathlib.Core.List.{List}
+use mathlib.Core.Path.{_≡_, _∙_, subst}
+use lib.ListN.{length}
+use Rattle.book.specs.Entries.{BookEntries}
+use Rattle.forms.specs.Place.{Found, Gives}
+use Rattle.booktext.specs.BookForm.{book}
+use Rattle.bookreader.specs.Reading.{bookAnswer, readOf}
 use Rattle.bookreader.proofs.Answers.{read-long, read-stopped, read-ended, read-whole, answer-refused, answer-accepted}
 use borrow.Author.Needs.{needs}
 use Rattle.bookreader.proofs.read.Statement.{statement}
 use Rattle.bookreader.proofs.read.Tie as tie
+
+-- of a text that was parsed: the text, the book's entries, and where parsing stands
+abbrev text : tie.After-book → List ℕ
+text c = c .before .before .before .args .text .now
+
+abbrev entries : tie.After-book → BookEntries
+entries c = c .book .ensures .0
+
+abbrev place : tie.After-book → ℕ
+place c = c .book .result .next .at
+
+short : (c : tie.After-book) → length (text c) ≤ 4096
+short c = c .before .if1 .left
+
+-- where it was parsed, from where its end was looked at; and this, from where the record was checked
+abbrev parsed : tie.After-struct-known → tie.After-book
+parsed c = c .before .before .before
+
+abbrev ended : tie.After-check → tie.After-struct-known
+ended c = c .before .before .before
+
+found : (c : tie.After-struct-known) → let p = parsed c in Found book (text p) 0 (entries p) (place p)
+found c = let p = parsed c in subst (Gives book (text p) 0 (entries p) (place p)) (c .before .if2 .left) (p .book .ensures .2)
+
+whole : (c : tie.After-check) → let p = parsed (ended c) in bookAnswer (entries p) ≡ readOf (text p)
+whole c = let p = parsed (ended c) in read-whole (text p) (short p) (entries p) (place p) (found (ended c)) (c .before .before .if3 .left)
 
 returns : tie.Need-returns
 returns c = c .refused .ensures ∙ read-long (c .before .before .before .args .text .now) (c .before .if1 .taken)
 
 returns-2 : tie.Need-returns-2
 returns-2 c =
-    let t = c .before .before .before .before .before .before .args .text .now in
-    let b = c .before .before .before .book in
+    let p = c .before .before .before in
     c .refused2 .ensures
-    ∙ read-stopped t (c .before .before .before .before .if1 .left) (b .result .next .at)
-    (subst (Gives book t 0 (b .ensures .0) (b .result .next .at)) (c .before .if2 .taken) (b .ensures .2))
+    ∙ read-stopped (text p) (short p) (place p) (subst (Gives book (text p) 0 (entries p) (place p)) (c .before .if2 .taken) (p .book .ensures .2))
 
 returns-3 : tie.Need-returns-3
 returns-3 c =
-    let t = c .before .before .before .before .before .before .before .before .args .text .now in
-    let b = c .before .before .before .before .before .book in
-    c .refused3 .ensures
-    ∙ read-ended t (c .before .before .before .before .before .before .if1 .left) (b .ensures .0) (b .result .next .at)
-    (subst (Gives book t 0 (b .ensures .0) (b .result .next .at)) (c .before .before .before .if2 .left) (b .ensures .2))
-    (c .before .if3 .taken)
+    let e = c .before .before in
+    let p = parsed e in
+    c .refused3 .ensures ∙ read-ended (text p) (short p) (entries p) (place p) (found e) (c .before .if3 .taken)
 
 returns-4 : tie.Need-returns-4
 returns-4 c =
-    let t = c .before .before .before .before .before .before .before .before .before .before .before .before .before .args .text .now in
-    let b = c .before .before .before .before .before .before .before .before .before .before .book in
-    let parsed =
-    read-whole t (c .before .before .before .before .before .before .before .before .before .before .before .if1 .left) (b .ensures .0)
-    (b .result .next .at)
-    (subst (Gives book t 0 (b .ensures .0) (b .result .next .at))
-    (c .before .before .before .before .before .before .before .before .if2 .left) (b .ensures .2))
-    (c .before .before .before .before .before .before .if3 .left) in
+    let told = c .before .before in
+    let k = told .before .before in
+    let p = parsed (ended k) in
     c .refused4 .ensures
-    ∙ answer-refused (b .ensures .0) (b .result .book) (c .before .before .before .before .check .result)
-    (c .before .before .verdict .given .0 .0) (c .before .before .verdict .given .0 .1 .0) (b .ensures .1)
-    (c .before .before .before .before .check .ensures) (c .before .before .verdict .given .1)
-    ∙ parsed
+    ∙ answer-refused (entries p) (p .book .result .book) (k .check .result) (told .verdict .given .0 .0) (told .verdict .given .0 .1 .0)
+    (p .book .ensures .1) (k .check .ensures) (told .verdict .given .1)
+    ∙ whole k
 
 returns-5 : tie.Need-returns-5
 returns-5 c =
-    let t = c .before .before .before .before .before .before .before .before .before .before .before .args .text .now in
-    let b = c .before .before .before .before .before .before .before .before .book in
-    let parsed =
-    read-whole t (c .before .before .before .before .before .before .before .before .before .if1 .left) (b .ensures .0)
-    (b .result .next .at)
-    (subst (Gives book t 0 (b .ensures .0) (b .result .next .at)) (c .before .before .before .before .before .before .if2 .left)
-    (b .ensures .2))
-    (c .before .before .before .before .if3 .left) in
-    answer-accepted (b .ensures .0) (b .result .book) (c .before .before .check .result) (b .ensures .1) (c .before .before .check .ensures)
-    (c .enum-told .given .1)
-    ∙ parsed
+    let k = c .before .before in
+    let p = parsed (ended k) in
+    answer-accepted (entries p) (p .book .result .book) (k .check .result) (p .book .ensures .1) (k .check .ensures) (c .enum-told .given .1)
+    ∙ whole k
 
 pub read-spec : {M : Type 1} → statement M
 read-spec =

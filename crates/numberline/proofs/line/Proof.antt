@@ -1,17 +1,23 @@
 -- A word, the numbers and a word, read one after the other (`reads-framed`). Assumes nothing.
+use Rattle.forms.specs.Spaced.{numbersIn}
 use Rattle.forms.proofs.Framed.{reads-framed}
-use Rattle.forms.proofs.Spaced.{numbers, numbersIn}
+use Rattle.forms.proofs.Spaced.{numbers-laws}
 use Rattle.numberline.specs.ScansLine.{valuesOf}
 use borrow.Author.Needs.{needs}
 use Rattle.numberline.proofs.line.Statement.{statement}
 use Rattle.numberline.proofs.line.Tie as tie
 
+-- the beginning, from where the first word was read
+abbrev start : tie.After-word → tie.Start
+start c = c .before .before .before .before
+
 returns : tie.Need-returns
 returns c =
-    let a = c .before .before .before .before .before .before .before .args in
-    let w = c .before .before .before .word in
+    let begun = c .before .before .before in
+    let a = start begun .args in
+    let w = begun .word in
     let n = c .before .before .spaced in (
-      λ closes. reads-framed (a .start .now) (numbers (a .further)) (a .close .now) closes (a .text .now) (a .from .at) (a .from .stopped)
+      reads-framed (a .start .now) (numbers-laws (a .further)) (a .close .now) (a .text .now) (a .from .at) (a .from .stopped)
           (w .result .at) (w .result .stopped) (numbersIn (a .further) (valuesOf (n .result))) (n .result .next .at) (n .result .next .stopped)
           (c .word2 .result .at) (c .word2 .result .stopped) (w .ensures .0) (n .ensures .0) (c .word2 .ensures .0),
       c .word2 .ensures .1,

@@ -2,43 +2,48 @@
 use native.Mathlib.Omega.{arith}
 use mathlib.Core.Path.{sym, _∙_, subst}
 use lib.IntN.{ℤ}
-use Rattle.forms.proofs.Signed.{signed, from-0, from-1}
-use Rattle.forms.proofs.Place.{Reads}
+use Rattle.forms.specs.Signed.{signed}
+use Rattle.forms.specs.Place.{Reads}
 use Rattle.numerals.proofs.Integers.{begins-within, signed-minus, signed-plain}
 use Rattle.numerals.proofs.Negatives.{minus-kept, plus-kept}
 use borrow.Author.Needs.{needs}
 use Rattle.numerals.proofs.signed.Statement.{statement}
 use Rattle.numerals.proofs.signed.Tie as tie
 
+-- the beginning, from where the next byte was looked at
+abbrev start : tie.After-begins → tie.Start
+start c = c .before .before
+
 number-requires : tie.Need-number-requires
 number-requires c κs =
-    let a = c .before .before .before .args in (
-      omega (arith, begins-within (a .text .now) (a .from .at) (a .from .stopped) 45 (sym (c .before .begins .ensures) ∙ c .if1 .taken)),
-      omega arith,
-    )
+    let a = start (c .before) .args in
+    let within = begins-within (a .text .now) (a .from .at) (a .from .stopped) 45 (sym (c .before .begins .ensures) ∙ c .if1 .taken) in
+    record { within = omega arith; small = omega arith }
 
 returns : tie.Need-returns
 returns c =
-    let a = c .before .before .before .before .before .before .args in
-    let n = c .before .before .number .result in (
-      subst (λ (z : ℤ). Reads signed (a .text .now) (a .from .at) (a .from .stopped) z (n .next .at) (n .next .stopped))
-          (sym (minus-kept (n .value) (c .before .before .number .ensures .0) (c .minus .result) (c .minus .ensures)))
-          (signed-minus (a .text .now) (a .from .at) (a .from .stopped) (n .value) (n .next .at) (n .next .stopped)
-          (sym (c .before .before .before .before .begins .ensures) ∙ c .before .before .before .if1 .taken)
-          (c .before .before .number .ensures .1 .0 from-1)),
-      c .before .before .number .ensures .1 .1,
+    let read = c .before .before in
+    let seen = read .before .before in
+    let a = start seen .args in
+    let n = read .number in (
+      subst (λ (z : ℤ). Reads signed (a .text .now) (a .from .at) (a .from .stopped) z (n .result .next .at) (n .result .next .stopped))
+          (sym (minus-kept (n .result .value) (n .ensures .0) (c .minus .result) (c .minus .ensures)))
+          (signed-minus (a .text .now) (a .from .at) (a .from .stopped) (n .result .value) (n .result .next .at) (n .result .next .stopped)
+          (sym (seen .begins .ensures) ∙ read .before .if1 .taken) (n .ensures .1 .0)),
+      n .ensures .1 .1,
     )
 
 returns-2 : tie.Need-returns-2
 returns-2 c =
-    let a = c .before .before .before .before .before .before .args in
-    let n = c .before .before .number2 .result in (
-      subst (λ (z : ℤ). Reads signed (a .text .now) (a .from .at) (a .from .stopped) z (n .next .at) (n .next .stopped))
-          (sym (plus-kept (n .value) (c .before .before .number2 .ensures .0) (c .plus .result) (c .plus .ensures)))
-          (signed-plain (a .text .now) (a .from .at) (a .from .stopped) (n .value) (n .next .at) (n .next .stopped)
-          (sym (c .before .before .before .before .begins .ensures) ∙ c .before .before .before .if1 .left)
-          (c .before .before .number2 .ensures .1 .0 from-0)),
-      c .before .before .number2 .ensures .1 .1,
+    let read = c .before .before in
+    let seen = read .before .before in
+    let a = start seen .args in
+    let n = read .number2 in (
+      subst (λ (z : ℤ). Reads signed (a .text .now) (a .from .at) (a .from .stopped) z (n .result .next .at) (n .result .next .stopped))
+          (sym (plus-kept (n .result .value) (n .ensures .0) (c .plus .result) (c .plus .ensures)))
+          (signed-plain (a .text .now) (a .from .at) (a .from .stopped) (n .result .value) (n .result .next .at) (n .result .next .stopped)
+          (sym (seen .begins .ensures) ∙ read .before .if1 .left) (n .ensures .1 .0)),
+      n .ensures .1 .1,
     )
 
 pub signed-spec : {M : Type 1} → statement M

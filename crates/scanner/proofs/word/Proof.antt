@@ -4,7 +4,7 @@ use native.Mathlib.Omega.{arith}
 use mathlib.Core.Path.{refl, sym, subst}
 use lib.ListN.{length}
 use Rattle.lists.proofs.Tests.{passed, failed}
-use Rattle.forms.proofs.Word.{word}
+use Rattle.forms.specs.Word.{word}
 use Rattle.scanner.specs.declared.Cursor.{Cursor}
 use Rattle.scanner.proofs.Steps.{still, found, halted}
 use Rattle.scanner.proofs.Words.{Along, along-start, along-stop, along-next, along-done}
@@ -17,51 +17,56 @@ Inv-loop text w at i₀ i = Along text w at i
 abbrev μ-loop : tie.MeasureT-loop
 μ-loop text w at i₀ i = length w - i
 
+-- the beginning, from where parsing had not stopped before; and the loop, from where a byte was compared
+abbrev start : tie.Else1 Inv-loop μ-loop → tie.Start Inv-loop μ-loop
+start c = c .before .before .before
+
+abbrev turn : tie.After-byte-at Inv-loop μ-loop → tie.At-loop Inv-loop μ-loop
+turn c = c .before .before .before
+
 returns : tie.Need-returns Inv-loop μ-loop
 returns c =
-    let a = c .before .before .before .args in
-    (still (word (a .w .now)) (a .text .now) (a .from) tt (c .if1 .taken), c .before .before .before .pre)
+    let s = c .before .before .before in
+    (still (word (s .args .w .now)) (s .args .text .now) (s .args .from) tt (c .if1 .taken), s .pre)
 
 loop-holds : tie.Need-loop-holds Inv-loop μ-loop
-loop-holds c = let a = c .before .before .before .args in along-start (a .text .now) (a .w .now) (a .from .at) (c .before .before .before .pre)
+loop-holds c = let s = start c in along-start (s .args .text .now) (s .args .w .now) (s .args .from .at) (s .pre)
 
 add-byte-at : tie.Need-add-byte-at Inv-loop μ-loop
 add-byte-at c = omega (arith, c .before .loop .inv .in-text)
 
-byte-at-requires : tie.Need-byte-at-requires Inv-loop μ-loop
-byte-at-requires c κs = tt
-
 add-stop : tie.Need-add-stop Inv-loop μ-loop
-add-stop c = omega (arith, c .before .before .before .before .loop .inv .in-text)
-
-stop-requires : tie.Need-stop-requires Inv-loop μ-loop
-stop-requires c κs = tt
+add-stop c = omega (arith, turn (c .before) .loop .inv .in-text)
 
 returns-2 : tie.Need-returns-2 Inv-loop μ-loop
 returns-2 c =
-    let a = c .before .before .before .before .before .before .before .before .before .args in
-    let l = c .before .before .before .before .before .loop in
-    let stops = along-stop (a .text .now) (a .w .now) (a .from .at) (l .i) (l .inv) (omega arith) (failed (c .before .before .byte-at .ensures) (c .before .if2 .taken)) in
-    (halted (word (a .w .now)) (a .text .now) (a .from) tt (c .before .before .before .before .before .before .if1 .left) (a .from .at + l .i) (c .stop .result) (c .stop .ensures) stops, subst (λ (n : Cursor). n .at ≤ length (a .text .now)) (sym (c .stop .ensures)) (l .inv .in-text))
+    let seen = c .before .before in
+    let l = turn seen .loop in
+    let going = turn seen .before in
+    let a = start going .args in
+    let stops = along-stop (a .text .now) (a .w .now) (a .from .at) (l .i) (l .inv) (omega arith) (failed (seen .byte-at .ensures) (c .before .if2 .taken)) in
+    (halted (word (a .w .now)) (a .text .now) (a .from) tt (going .if1 .left) (a .from .at + l .i) (c .stop .result) (c .stop .ensures) stops, subst (λ (n : Cursor). n .at ≤ length (a .text .now)) (sym (c .stop .ensures)) (l .inv .in-text))
 
 add-i : tie.Need-add-i Inv-loop μ-loop
-add-i c = omega (arith, c .before .before .before .before .loop .inv .in-word)
+add-i c = omega (arith, turn (c .before) .loop .inv .in-word)
 
 loop-again : tie.Need-loop-again Inv-loop μ-loop
 loop-again c =
-    let a = c .before .before .before .before .before .before .before .before .args in
-    let l = c .before .before .before .before .loop in
-    along-next (a .text .now) (a .w .now) (a .from .at) (l .i) (l .inv) (omega arith) (passed (c .before .byte-at .ensures) (c .if2 .left))
+    let seen = c .before in
+    let l = turn seen .loop in
+    let a = start (turn seen .before) .args in
+    along-next (a .text .now) (a .w .now) (a .from .at) (l .i) (l .inv) (omega arith) (passed (seen .byte-at .ensures) (c .if2 .left))
 
 add-t13 : tie.Need-add-t13 Inv-loop μ-loop
 add-t13 c = omega (arith, c .before .loop .inv .in-text)
 
 returns-3 : tie.Need-returns-3 Inv-loop μ-loop
 returns-3 c =
-    let a = c .before .before .before .before .before .args in
     let l = c .before .loop in
+    let going = c .before .before in
+    let a = start going .args in
     let finds = along-done (a .text .now) (a .w .now) (a .from .at) (l .i) (l .inv) (omega arith) in
-    (found (word (a .w .now)) (a .text .now) (a .from) tt (c .before .before .if1 .left) (a .from .at + l .i) _ refl finds, l .inv .in-text)
+    (found (word (a .w .now)) (a .text .now) (a .from) tt (going .if1 .left) (a .from .at + l .i) _ refl finds, l .inv .in-text)
 
 pub word-spec : {M : Type 1} → statement M
 word-spec =
@@ -73,9 +78,9 @@ word-spec =
     loop-holds
     add-byte-at
     (λ c. omega arith)
-    byte-at-requires
+    (λ c κs. tt)
     add-stop
-    stop-requires
+    (λ c κs. tt)
     returns-2
     add-i
     (λ c. omega arith)

@@ -4,8 +4,8 @@ use lib.IntN.{ℤ}
 use mir.Syntax.{w64}
 use mir.Val.{SFits}
 use mir.ValLaws.{toZ-ofZ}
-use Rattle.forms.proofs.Spaced.{numbersIn}
-use Rattle.booktext.proofs.BookForm.{segment, toSegment, space-closes}
+use Rattle.forms.specs.Spaced.{numbersIn}
+use Rattle.booktext.specs.BookForm.{toSegment, segment}
 use Rattle.scanner.specs.Scans.{Scans}
 use Rattle.numberline.specs.ScansLine.{valuesOf}
 use Rattle.booklines.proofs.Parts.{segment-scanned}
@@ -13,18 +13,29 @@ use borrow.Author.Needs.{needs}
 use Rattle.booklines.proofs.segments.segment.Statement.{statement}
 use Rattle.booklines.proofs.segments.segment.Tie as tie
 
+-- the beginning, from where the line of numbers was read; that place, from where the fixed price was; and this, from the end
+abbrev start : tie.After-line → tie.Start
+start c = c .before .before .before .before
+
+abbrev line : tie.After-signed → tie.After-line
+line c = c .before .before
+
+abbrev price : tie.After-struct-told → tie.After-signed
+price c = c .before .before .before .before
+
 returns : tie.Need-returns
 returns c =
-    let a = c .before .before .before .before .before .before .before .before .before .before .args in
-    let l = c .before .before .before .before .before .before .line in
+    let read = line (price c) in
+    let a = start read .args in
+    let l = read .line in
     let x = numbersIn 2 (valuesOf (l .result)) in
-    let fixed = c .before .before .before .before .signed in
+    let fixed = price c .signed in
     let close = c .before .word in
     let fits : SFits w64 (fixed .result .value) = search needs in
     let kept = toZ-ofZ w64 (fixed .result .value) fits in (
       subst (λ (z : ℤ). Scans segment (a .text .now) (a .from) (toSegment (x, (z, tt))) (close .result)) (sym kept)
           (segment-scanned (a .text .now) (a .from) x (l .result .next) (fixed .result .value) (fixed .result .next) (close .result)
-          (l .ensures .0 space-closes) (fixed .ensures .0) (close .ensures .0)),
+          (l .ensures .0) (fixed .ensures .0) (close .ensures .0)),
       close .ensures .1,
     )
 

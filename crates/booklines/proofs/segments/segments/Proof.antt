@@ -2,73 +2,89 @@
 use Prim.Native.Nat.{ℕ, _+_}
 use native.Mathlib.Omega.{arith}
 use mathlib.Core.Path.{sym, ap, _∙_}
-use Rattle.booktext.proofs.BookForm.{segment, segment-space}
+use Rattle.booktext.specs.BookForm.{segment}
+use Rattle.booktext.proofs.BookForm.{segment-laws, segment-space}
 use Rattle.bookrecord.specs.Adding.{withSegment}
-use Rattle.booklines.proofs.Collecting.{Collected, collected-first, collected-next, collected-done, left, left-falls}
 use Rattle.bookrecord.proofs.Kept.{segmentCount}
+use Rattle.booklines.proofs.Collecting.{Collected, collected-first, collected-next, collected-done, left, left-falls}
 use Rattle.booklines.proofs.segments.segments.Statement.{statement}
 use Rattle.booklines.proofs.segments.segments.Tie as tie
 
 abbrev Inv-loop : tie.InvT-loop
 Inv-loop text bid₀ next₀ bid next =
-    Collected 32 segment segment-space tt withSegment segmentCount text bid₀ (next₀ .at) (next₀ .stopped) bid (next .at) (next .stopped)
+    Collected 32 segment segment-laws segment-space withSegment segmentCount text bid₀ (next₀ .at) (next₀ .stopped) bid (next .at) (next .stopped)
 
 abbrev μ-loop : tie.MeasureT-loop
-μ-loop text bid₀ next₀ bid next = left 32 segment segment-space tt withSegment segmentCount text (next .at) (next .stopped)
+μ-loop text bid₀ next₀ bid next = left 32 segment segment-laws segment-space withSegment segmentCount text (next .at) (next .stopped)
+
+-- the beginning, from where the first segment was read; that place, from where it was added; and this, from the loop
+abbrev start : tie.After-segment Inv-loop μ-loop → tie.Start Inv-loop μ-loop
+start c = c .before .before
+
+abbrev first : tie.After-with-segment Inv-loop μ-loop → tie.After-segment Inv-loop μ-loop
+first c = c .before .before
+
+abbrev begun : tie.At-loop Inv-loop μ-loop → tie.After-with-segment Inv-loop μ-loop
+begun c = c .before .before
+
+-- where a further segment was found to begin, from where it was read
+abbrev tested : tie.After-segment2 Inv-loop μ-loop → tie.After-begins Inv-loop μ-loop
+tested c = c .before .before
 
 segment-requires : tie.Need-segment-requires Inv-loop μ-loop
-segment-requires c κs = c .before .pre .0
+segment-requires c κs = c .before .pre .within
 
 loop-holds : tie.Need-loop-holds Inv-loop μ-loop
 loop-holds c =
-    let a = c .before .before .before .before .before .args in
-    let f = c .before .before .before .segment in
     let r = c .before .with-segment in
-    collected-first 32 segment segment-space tt withSegment segmentCount (a .text .now) (r .result) (a .from .at) (a .from .stopped) (f .result .segment)
-    (f .result .next .at) (f .result .next .stopped) (c .before .before .before .before .before .pre .0) (f .ensures .0)
-    (ap segmentCount (r .ensures) ∙ ap (λ (n : ℕ). n + 1) (c .before .before .before .before .before .pre .1))
-
-begins-requires : tie.Need-begins-requires Inv-loop μ-loop
-begins-requires c κs = tt
+    let f = first (c .before) .segment in
+    let s = start (first (c .before)) in
+    let a = s .args in
+    collected-first 32 segment segment-laws segment-space withSegment segmentCount (a .text .now) (r .result) (a .from .at) (a .from .stopped) (f .result .segment)
+    (f .result .next .at) (f .result .next .stopped) (s .pre .within) (f .ensures .0)
+    (ap segmentCount (r .ensures) ∙ ap (λ (n : ℕ). n + 1) (s .pre .none))
 
 segment-requires-2 : tie.Need-segment-requires-2 Inv-loop μ-loop
 segment-requires-2 c κs = c .before .before .loop .inv .run .within
 
 with-segment-requires-2 : tie.Need-with-segment-requires-2 Inv-loop μ-loop
-with-segment-requires-2 c κs = omega (arith, c .before .before .before .before .loop .inv .few, c .before .before .before .before .loop .inv .run .within)
+with-segment-requires-2 c κs = let l = tested (c .before) .before .loop in omega (arith, l .inv .few, l .inv .run .within)
 
 loop-less : tie.Need-loop-less Inv-loop μ-loop
 loop-less c =
-    let a = c .before .before .before .before .before .before .before .before .before .before .before .before .args in
-    let l = c .before .before .before .before .before .before .loop in
-    let parsed = c .before .before .before .segment2 in
-    left-falls 32 segment segment-space tt withSegment segmentCount (a .text .now) (l .next .at) (l .next .stopped) (l .inv .run .within)
-    (sym (c .before .before .before .before .before .begins .ensures) ∙ c .before .before .before .before .if1 .taken)
+    let read = c .before .before .before in
+    let parsed = read .segment2 in
+    let seen = tested read in
+    let l = seen .before .loop in
+    let a = start (first (begun (seen .before))) .args in
+    left-falls 32 segment segment-laws segment-space withSegment segmentCount (a .text .now) (l .next .at) (l .next .stopped) (l .inv .run .within)
+    (sym (seen .begins .ensures) ∙ read .before .if1 .taken)
     (parsed .result .segment) (parsed .result .next .at) (parsed .result .next .stopped) (parsed .ensures .0)
 
 loop-again : tie.Need-loop-again Inv-loop μ-loop
 loop-again c =
-    let a = c .before .before .before .before .before .before .before .before .before .before .before .before .args in
-    let l = c .before .before .before .before .before .before .loop in
-    let r₀ = c .before .before .before .before .before .before .before .before .with-segment in
-    let f = c .before .before .before .before .before .before .before .before .before .before .segment in
-    let parsed = c .before .before .before .segment2 in
+    let read = c .before .before .before in
+    let parsed = read .segment2 in
     let r = c .before .with-segment2 in
-    collected-next 32 segment segment-space tt withSegment segmentCount (a .text .now) (r₀ .result) (f .result .next .at) (f .result .next .stopped) (l .bid)
-    (l .next .at) (l .next .stopped) (l .inv)
-    (sym (c .before .before .before .before .before .begins .ensures) ∙ c .before .before .before .before .if1 .taken)
+    let seen = tested read in
+    let l = seen .before .loop in
+    let r₀ = begun (seen .before) in
+    let f = first r₀ .segment in
+    let a = start (first r₀) .args in
+    collected-next 32 segment segment-laws segment-space withSegment segmentCount (a .text .now) (r₀ .with-segment .result) (f .result .next .at) (f .result .next .stopped) (l .bid)
+    (l .next .at) (l .next .stopped) (l .inv) (sym (seen .begins .ensures) ∙ read .before .if1 .taken)
     (parsed .result .segment) (parsed .result .next .at) (parsed .result .next .stopped) (parsed .ensures .0) (r .result)
     (r .ensures) (ap segmentCount (r .ensures))
 
 returns : tie.Need-returns Inv-loop μ-loop
 returns c =
-    let a = c .before .before .before .before .before .before .before .before .args in
     let l = c .before .before .loop in
-    let r₀ = c .before .before .before .before .with-segment in
-    let f = c .before .before .before .before .before .before .segment in (
-      collected-done 32 segment segment-space tt withSegment segmentCount (a .text .now) (r₀ .result) (f .result .next .at) (f .result .next .stopped) (l .bid)
+    let r₀ = begun (c .before .before) in
+    let f = first r₀ .segment in
+    let a = start (first r₀) .args in (
+      collected-done 32 segment segment-laws segment-space withSegment segmentCount (a .text .now) (r₀ .with-segment .result) (f .result .next .at) (f .result .next .stopped) (l .bid)
           (l .next .at) (l .next .stopped) (l .inv) (sym (c .before .begins .ensures) ∙ c .if1 .left) (a .from .at) (a .from .stopped)
-          (f .result .segment) (f .ensures .0) (a .head) (r₀ .ensures),
+          (f .result .segment) (f .ensures .0) (a .head) (r₀ .with-segment .ensures),
       l .inv .run .within,
     )
 
@@ -81,7 +97,7 @@ segments-spec =
     segment-requires
     (λ c κs. omega arith)
     loop-holds
-    begins-requires
+    (λ c κs. tt)
     segment-requires-2
     with-segment-requires-2
     loop-less
