@@ -14,8 +14,9 @@ use Rattle.supply.specs.Supply.{on, offers}
 use Rattle.supply.specs.Allocation.{costOf}
 use Rattle.divisions.specs.Division.{Allocation}
 use Rattle.divisions.specs.IsAward.{insideCount}
-use Rattle.choices.proofs.Choice.{width, placed}
-use Rattle.choices.proofs.Sound.{SoundSegment, SoundSupply}
+use Rattle.choices.specs.Choice.{width, placed}
+use Rattle.choices.specs.Sound.{SoundSegment}
+use Rattle.choices.proofs.Sound.{SoundSupply}
 use Rattle.choices.proofs.Fill.{cost}
 use Rattle.choices.proofs.Certificate.{insides}
 use Rattle.choices.proofs.Placed.{price-on}

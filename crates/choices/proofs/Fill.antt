@@ -11,7 +11,7 @@ use lib.IntN.{natAbs}
 use Rattle.book.specs.declared.Segment.{Segment}
 use Rattle.book.specs.Rules.{priceOn}
 use Rattle.supply.specs.Allocation.{bought}
-use Rattle.choices.proofs.Choice.{width, widthAt, cheaper, extra, extras}
+use Rattle.choices.specs.Choice.{width, widthAt, cheaper, extra, extras}
 
 -- the price at a segment's start, which is not negative
 unfoldable pub base : Segment → ℕ

@@ -19,8 +19,8 @@ use Rattle.book.specs.declared.Segment.{Segment}
 use Rattle.book.specs.Rules.{priceOn}
 use Rattle.book.proofs.InRange.{mostCents}
 use Rattle.divisions.specs.Award.{Priced}
-use Rattle.choices.proofs.Choice.{starts, ends, fits, width, extra, extras, placed, costWith, filled}
-use Rattle.choices.proofs.Sound.{SoundSegment}
+use Rattle.choices.specs.Choice.{starts, ends, fits, width, extra, extras, placed, costWith, filled}
+use Rattle.choices.specs.Sound.{SoundSegment}
 use Rattle.comparison.specs.Records.{blanksIn}
 use Rattle.meritorder.specs.Records.{firstSegments}
 use Rattle.meritorder.proofs.Segments.{rows-none, rows-next}

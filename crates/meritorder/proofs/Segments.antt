@@ -8,8 +8,8 @@ use mathlib.Core.Path.{_≡_, refl, ap₂, subst}
 use lib.IntN.{ℤ}
 use Rattle.lists.specs.All.{All}
 use Rattle.book.specs.declared.Segment.{Segment}
-use Rattle.choices.proofs.Choice.{starts, ends}
-use Rattle.choices.proofs.Sound.{SoundSegment}
+use Rattle.choices.specs.Choice.{starts, ends}
+use Rattle.choices.specs.Sound.{SoundSegment}
 use Rattle.meritorder.specs.Records.{sumOf, Small, segmentAt, firstSegments, segmentsOf, SoundColumns, Ranges}
 
 pub rows-none : (at : ℕ → Segment) → firstSegments at 0 ≡ []

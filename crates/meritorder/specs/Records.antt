@@ -5,8 +5,8 @@ use lib.IntN.{ℤ, pos}
 use lib.ListN.{getD}
 use Rattle.lists.specs.All.{All}
 use Rattle.book.specs.declared.Segment.{Segment}
-use Rattle.choices.proofs.Choice.{extra}
-use Rattle.choices.proofs.Sound.{SoundSegment}
+use Rattle.choices.specs.Choice.{extra}
+use Rattle.choices.specs.Sound.{SoundSegment}
 use Rattle.meritorder.specs.declared.Choice.{Choice}
 
 -- the first n numbers of a column, added up

@@ -2,7 +2,7 @@
 use Prim.Native.Nat.{_≤_}
 use Rattle.lists.specs.All.{All}
 use Rattle.book.specs.Entries.{BookEntries}
-use Rattle.book.proofs.Accepted.{AcceptedBid}
+use Rattle.book.specs.Accepted.{AcceptedBid}
 
 pub record Searchable (b : BookEntries) : Type 0 where
   pub few : b .count ≤ 8

@@ -6,8 +6,9 @@ use borrow.Author.Needs.{needs}
 use lib.ListN.{length, getD}
 use Rattle.lists.proofs.Slices.{length-held}
 use Rattle.book.specs.Entries.{bidEntries}
+use Rattle.book.specs.Accepted.{AcceptedBid}
 use Rattle.book.proofs.Records.{noBid}
-use Rattle.book.proofs.Accepted.{AcceptedBid, few-bids, bid-at}
+use Rattle.book.proofs.Accepted.{few-bids, bid-at}
 use Rattle.award.specs.Award.{rowOf}
 use Rattle.clearing.proofs.Made.{Made, made-none, made-next, made-all}
 use Rattle.clearing.proofs.rows.Statement.{statement}

@@ -5,8 +5,8 @@ use mathlib.Core.Path.{sym, ap, subst⁻¹, _∙_}
 use borrow.Author.Needs.{needs}
 use borrow.Author.Tests.{leb-true, leb-false}
 use Rattle.book.specs.declared.Segment.{Segment}
-use Rattle.choices.proofs.Choice.{widthAt}
-use Rattle.choices.proofs.Sound.{SoundSegment}
+use Rattle.choices.specs.Choice.{widthAt}
+use Rattle.choices.specs.Sound.{SoundSegment}
 use Rattle.meritorder.specs.Records.{segmentAt}
 use Rattle.meritorder.proofs.Segments.{sound-at}
 use Rattle.meritorder.proofs.Sums.{Summed, summed-none, summed-next, summed-all}

@@ -4,8 +4,8 @@ use mathlib.Core.List.{List}
 use mathlib.Core.Path.{_≡_, subst, subst⁻¹}
 use borrow.Author.Needs.{needs}
 use Rattle.book.specs.declared.Segment.{Segment}
-use Rattle.choices.proofs.Choice.{width, extra}
-use Rattle.choices.proofs.Sound.{SoundSegment}
+use Rattle.choices.specs.Choice.{width, extra}
+use Rattle.choices.specs.Sound.{SoundSegment}
 use Rattle.meritorder.specs.Records.{segmentAt, segmentsOf}
 use Rattle.meritorder.proofs.Segments.{sound-at, sound-first}
 use Rattle.meritorder.proofs.extra.Statement.{statement}

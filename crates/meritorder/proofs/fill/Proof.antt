@@ -5,8 +5,8 @@ use mathlib.Core.Path.{_≡_, refl, sym, ap, subst⁻¹, _∙_}
 use borrow.Author.Needs.{needs}
 use Rattle.book.specs.declared.Segment.{Segment}
 use Rattle.book.specs.Rules.{priceOn}
-use Rattle.choices.proofs.Choice.{starts, extra}
-use Rattle.choices.proofs.Sound.{SoundSegment}
+use Rattle.choices.specs.Choice.{starts, extra}
+use Rattle.choices.specs.Sound.{SoundSegment}
 use Rattle.choices.proofs.Placed.{fits-low}
 use Rattle.meritorder.specs.Records.{segmentAt, firstSegments}
 use Rattle.meritorder.proofs.Segments.{starts-sum, starts-small, sound-at, sound-ranges, sound-first}

@@ -8,10 +8,11 @@ use Rattle.lists.proofs.Slices.{length-held}
 use Rattle.book.specs.declared.Segment.{Segment}
 use Rattle.book.specs.declared.Bid.{Bid}
 use Rattle.book.specs.Entries.{bidEntries, bookEntries}
+use Rattle.book.specs.Accepted.{AcceptedBid}
 use Rattle.book.proofs.Records.{noBid}
-use Rattle.book.proofs.Accepted.{AcceptedBid, accepted-at}
+use Rattle.book.proofs.Accepted.{accepted-at}
 use Rattle.supply.specs.Supply.{supplyOf, suppliesOf}
-use Rattle.choices.proofs.Search.{each, search as searchFrom}
+use Rattle.choices.specs.Search.{each, search as searchFrom}
 use Rattle.choices.proofs.Accepted.{sound-segment-at}
 use Rattle.comparison.specs.declared.MaybeDivision.{MaybeDivision}
 use Rattle.comparison.specs.Records.{found}

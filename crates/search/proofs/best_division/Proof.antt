@@ -11,7 +11,7 @@ use Rattle.book.proofs.Records.{noBid}
 use Rattle.book.proofs.Accepted.{accepted-at}
 use Rattle.supply.specs.Supply.{supplyOf, suppliesOf}
 use Rattle.divisions.specs.Award.{awardOf}
-use Rattle.choices.proofs.Search.{searched, search as searchFrom}
+use Rattle.choices.specs.Search.{searched, search as searchFrom}
 use Rattle.choices.proofs.Accepted.{sound-supplies}
 use Rattle.choices.proofs.Finds.{finds}
 use Rattle.comparison.specs.Records.{found}

@@ -9,8 +9,8 @@ use mir.Val.{toZ, ofZ}
 use Rattle.lists.proofs.Slices.{length-held}
 use Rattle.book.specs.Entries.{bidEntries}
 use Rattle.supply.specs.Supply.{supplyOf}
-use Rattle.choices.proofs.Search.{each}
-use Rattle.choices.proofs.Sound.{SoundSegment}
+use Rattle.choices.specs.Search.{each}
+use Rattle.choices.specs.Sound.{SoundSegment}
 use Rattle.choices.proofs.Accepted.{sound-segment-at}
 use Rattle.meritorder.specs.declared.Choice.{Choice}
 use Rattle.comparison.specs.Records.{found}
