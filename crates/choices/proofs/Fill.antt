@@ -28,7 +28,7 @@ cost [] xs = 0
 cost (s ∷ c) [] = 0
 cost (s ∷ c) (x ∷ xs) = base s + s .unit .0 * x + cost c xs
 
--- the box of a choice: a extra for each bidder, at most its width
+-- the box of a choice: an extra for each bidder, at most its width
 abbrev pub Box : List Segment → List ℕ → Type 0
 Box [] [] = Unit {0}
 Box [] (x ∷ xs) = ⊥

@@ -36,7 +36,7 @@ module _ (demand : ℕ) (c : List Segment) (low : ℕ) (starts-are : low ≡ sta
   unfolding fits
   not-too-many high e h = rw (le-leb (starts c) demand (omega arith), e)
 
--- a extra is no more than what is left, and with the start no more than the end
+-- an extra is no more than what is left, and with the start no more than the end
 pub extra-left : (left : ℕ) (s : Segment) (c : List Segment) → extra left s c ≤ left
 extra-left left s c = omega arith
 
