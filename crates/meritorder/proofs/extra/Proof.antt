@@ -1,4 +1,4 @@
--- The three answers are the lesser of the width and what is left by the bidders before it who are no dearer.
+-- Each of the three answers is the lesser of the width and what the bidders before it who are no dearer cannot take.
 use Prim.Native.Nat.{ℕ, _-_}
 use native.Mathlib.Omega.{arith}
 use mathlib.Core.List.{List}
