@@ -19,10 +19,11 @@ use Rattle.book.specs.declared.Segment.{Segment}
 use Rattle.book.specs.declared.Book.{Book}
 use Rattle.book.specs.Entries.{BidEntries, BookEntries, bidEntries, bookEntries}
 use Rattle.book.specs.Rules.{bookVerdict}
+use Rattle.book.specs.Accepted.{AcceptedBid}
 use Rattle.book.proofs.Records.{noBid}
 use Rattle.book.proofs.InRange.{mostBlanks, mostCents}
 use Rattle.book.proofs.Bids.{entry-at}
-use Rattle.book.proofs.Accepted.{AcceptedBid, book-accepted, all-accepted, accepted-at}
+use Rattle.book.proofs.Accepted.{book-accepted, all-accepted, accepted-at}
 use Rattle.supply.specs.Supply.{segment0, supplyOf, suppliesOf, on, offers, numberFrom, segmentNumber}
 use Rattle.supply.proofs.Offers.{supply-small}
 use Rattle.sampling.specs.declared.Band.{Band}

@@ -11,15 +11,15 @@ use Rattle.money.proofs.Bounds.{natAbs-plus}
 use Rattle.book.specs.declared.Segment.{Segment}
 use Rattle.book.specs.Entries.{BidEntries, BookEntries}
 use Rattle.book.specs.Rules.{priceOn}
+use Rattle.book.specs.Accepted.{AcceptedBid}
 use Rattle.book.proofs.InRange.{mostCents}
-use Rattle.book.proofs.Accepted.{AcceptedBid}
 use Rattle.supply.specs.Supply.{supplyOf, suppliesOf, on, offers, priceAt}
 use Rattle.supply.specs.Allocation.{costOf}
 use Rattle.supply.proofs.OneSegment.{on-low}
 use Rattle.supply.proofs.Offers.{supply-small}
 use Rattle.divisions.specs.Division.{Allocation}
 use Rattle.divisions.specs.Award.{Priced}
-use Rattle.choices.proofs.Sound.{SoundSegment}
+use Rattle.choices.specs.Sound.{SoundSegment}
 use Rattle.choices.proofs.Accepted.{sound-supply}
 use Rattle.choices.proofs.Fill.{base}
 use Rattle.choices.proofs.Placed.{price-on}

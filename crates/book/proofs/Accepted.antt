@@ -2,108 +2,68 @@
 use Prim.Native.Nat.{ℕ, zero, suc, _+_, _≤_, _<_}
 use native.Mathlib.Nat.{le-of-suc-le-suc, not-suc-le-zero}
 use native.Mathlib.Omega.{arith}
-use mathlib.Core.Bool.{true}
 use mathlib.Core.List.{List, [], _∷_, map}
 use mathlib.Core.Path.{_≡_, subst}
 use borrow.Author.Tests.{leb-true, ltb-true}
-use lib.Dec.{leb, ltb}
 use lib.ListN.{length, getD, take}
 use Rattle.lists.specs.All.{All}
-use Rattle.lists.specs.Every.{every}
 use Rattle.lists.proofs.All.{all-indexed, all-at}
 use Rattle.lists.proofs.Tests.{both-left, both-right}
-use Rattle.refusal.specs.Checks.{unless}
-use Rattle.refusal.proofs.Firsts.{first-passed, rest-passed, test-holds}
-use Rattle.refusal.specs.declared.Rule.the-variants.{BidCount, SegmentCount, Range, BidderOrder, SegmentOrder, NegativePrice}
 use Rattle.refusal.specs.declared.Verdict.the-variants.{Accepted}
+use Rattle.refusal.proofs.Firsts.{all-passed, test-holds}
 use Rattle.book.specs.declared.Bid.{Bid}
 use Rattle.book.specs.declared.Book.{Book}
 use Rattle.book.specs.Entries.{BidEntries, BookEntries, bidEntries, bookEntries}
-use Rattle.book.specs.Rules.{within, segmentInRange, bidInRange, segmentsRise, startNotNegative, bidVerdict, bidsVerdict, bookVerdict}
+use Rattle.book.specs.Rules.{within, bidInRange, bidVerdict, bidsVerdict, bookVerdict}
+use Rattle.book.specs.Accepted.{AcceptedBid, AcceptedLine, AcceptedBook}
 use Rattle.book.proofs.Records.{noBid}
 use Rattle.book.proofs.InRange.{within-low, within-high}
 use Rattle.book.proofs.Bids.{length-entries, entry-at}
 
-pub record AcceptedBid (b : BidEntries) : Type 0 where
-  pub count-low : 1 ≤ b .count
-  pub count-high : b .count ≤ 6
-  pub bidder-low : 1 ≤ b .bidder
-  pub bidder-high : b .bidder ≤ 9999
-  pub ranges : every segmentInRange (b .segments) ≡ true
-  pub rises : segmentsRise 0 (b .segments) ≡ true
-  pub not-negative : every startNotNegative (b .segments) ≡ true
-
--- a bid on its line, after one of the bidder `before`
-pub record AcceptedLine (before : ℕ) (b : BidEntries) : Type 0 where
-  pub bid : AcceptedBid b
-  pub above : before < b .bidder
-
-pub record AcceptedBook (b : BookEntries) : Type 0 where
-  pub demand-low : 1 ≤ b .demand
-  pub demand-high : b .demand ≤ 1000000
-  pub count-low : 1 ≤ b .count
-  pub count-high : b .count ≤ 8
-  pub bids : bidsVerdict 2 0 (b .bids) ≡ Accepted
-
 pub line-accepted : (line before : ℕ) (b : BidEntries) → bidVerdict line before b ≡ Accepted → AcceptedLine before b
 unfolding bidVerdict bidInRange
-line-accepted line before b e4 =
-    let bidder = within 1 9999 (b .bidder) in
-    let segments = every segmentInRange (b .segments) in
-    let v4 = unless (within 1 6 (b .count)) SegmentCount line in
-    let v5 = unless (bidInRange b) Range line in
-    let v6 = unless (ltb before (b .bidder)) BidderOrder line in
-    let v7 = unless (segmentsRise 0 (b .segments)) SegmentOrder line in
-    let v8 = unless (every startNotNegative (b .segments)) NegativePrice line in
-    let e5 = rest-passed v4 (v5 ∷ v6 ∷ v7 ∷ v8 ∷ []) e4 in
-    let e6 = rest-passed v5 (v6 ∷ v7 ∷ v8 ∷ []) e5 in
-    let e7 = rest-passed v6 (v7 ∷ v8 ∷ []) e6 in
-    let e8 = rest-passed v7 (v8 ∷ []) e7 in
-    let count = test-holds (within 1 6 (b .count)) SegmentCount line (first-passed v4 (v5 ∷ v6 ∷ v7 ∷ v8 ∷ []) e4) in
-    let numbers = test-holds (bidInRange b) Range line (first-passed v5 (v6 ∷ v7 ∷ v8 ∷ []) e5) in
+line-accepted line before b e =
+    let (count, (ranges, (above, (rises, (not-negative, _))))) = all-passed (_ ∷ _ ∷ _ ∷ _ ∷ _ ∷ []) e in
+    let counted = test-holds _ _ _ count in
+    let ranged = test-holds _ _ _ ranges in
+    let bidder = both-left (within 1 9999 (b .bidder)) _ ranged in
     record {
       bid = record {
-        count-low = within-low 1 6 (b .count) count;
-        count-high = within-high 1 6 (b .count) count;
-        bidder-low = within-low 1 9999 (b .bidder) (both-left bidder segments numbers);
-        bidder-high = within-high 1 9999 (b .bidder) (both-left bidder segments numbers);
-        ranges = both-right bidder segments numbers;
-        rises = test-holds (segmentsRise 0 (b .segments)) SegmentOrder line (first-passed v7 (v8 ∷ []) e7);
-        not-negative = test-holds (every startNotNegative (b .segments)) NegativePrice line (first-passed v8 [] e8);
+        count-low = within-low 1 6 (b .count) counted;
+        count-high = within-high 1 6 (b .count) counted;
+        bidder-low = within-low 1 9999 (b .bidder) bidder;
+        bidder-high = within-high 1 9999 (b .bidder) bidder;
+        ranges = both-right (within 1 9999 (b .bidder)) _ ranged;
+        rises = test-holds _ _ _ rises;
+        not-negative = test-holds _ _ _ not-negative;
       };
-      above = ltb-true before (b .bidder) (test-holds (ltb before (b .bidder)) BidderOrder line (first-passed v6 (v7 ∷ v8 ∷ []) e6));
+      above = ltb-true before (b .bidder) (test-holds _ _ _ above);
     }
 
 pub book-accepted : (b : BookEntries) → bookVerdict b ≡ Accepted → AcceptedBook b
 unfolding bookVerdict
-book-accepted b e1 =
-    let v1 = unless (within 1 1000000 (b .demand)) Range 1 in
-    let v2 = unless (ltb 0 (b .count)) BidCount 2 in
-    let v3 = bidsVerdict 2 0 (b .bids) in
-    let v4 = unless (leb (b .count) 8) BidCount 10 in
-    let e2 = rest-passed v1 (v2 ∷ v3 ∷ v4 ∷ []) e1 in
-    let e3 = rest-passed v2 (v3 ∷ v4 ∷ []) e2 in
-    let e4 = rest-passed v3 (v4 ∷ []) e3 in
-    let demand = test-holds (within 1 1000000 (b .demand)) Range 1 (first-passed v1 (v2 ∷ v3 ∷ v4 ∷ []) e1) in
+book-accepted b e =
+    let (demand, (some-bids, (bids, (few-bids, _)))) = all-passed (_ ∷ _ ∷ _ ∷ _ ∷ []) e in
+    let asked = test-holds _ _ _ demand in
     record {
-      demand-low = within-low 1 1000000 (b .demand) demand;
-      demand-high = within-high 1 1000000 (b .demand) demand;
-      count-low = ltb-true 0 (b .count) (test-holds (ltb 0 (b .count)) BidCount 2 (first-passed v2 (v3 ∷ v4 ∷ []) e2));
-      count-high = leb-true (b .count) 8 (test-holds (leb (b .count) 8) BidCount 10 (first-passed v4 [] e4));
-      bids = first-passed v3 (v4 ∷ []) e3;
+      demand-low = within-low 1 1000000 (b .demand) asked;
+      demand-high = within-high 1 1000000 (b .demand) asked;
+      count-low = ltb-true 0 (b .count) (test-holds _ _ _ some-bids);
+      count-high = leb-true (b .count) 8 (test-holds _ _ _ few-bids);
+      bids = bids;
     }
 
 -- the first bid on its line, and then the others
 module _ (line before : ℕ) (b : BidEntries) (bs : List BidEntries) (accepted : bidsVerdict line before (b ∷ bs) ≡ Accepted) where
-  first-line : AcceptedLine before b
+  lines : All (λ v. v ≡ Accepted) (bidVerdict line before b ∷ bidsVerdict (line + 1) (b .bidder) bs ∷ [])
   unfolding bidsVerdict
-  first-line = line-accepted line before b (first-passed _ (bidsVerdict (line + 1) (b .bidder) bs ∷ []) accepted)
+  lines = all-passed (_ ∷ _ ∷ []) accepted
+
+  first-line : AcceptedLine before b
+  first-line = line-accepted line before b (lines .0)
 
   later-lines : bidsVerdict (line + 1) (b .bidder) bs ≡ Accepted
-  unfolding bidsVerdict
-  later-lines =
-      let later = bidsVerdict (line + 1) (b .bidder) bs in
-      first-passed later [] (rest-passed (bidVerdict line before b) (later ∷ []) accepted)
+  later-lines = lines .1 .0
 
 pub bids-accepted : (line before : ℕ) (bs : List BidEntries) (d : BidEntries) → bidsVerdict line before bs ≡ Accepted → (i : ℕ)
     → i < length bs → AcceptedBid (getD bs i d)

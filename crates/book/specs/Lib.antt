@@ -1,3 +1,4 @@
 pub mod Entries
 pub mod Rules
+pub mod Accepted
 pub mod Room

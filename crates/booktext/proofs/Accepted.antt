@@ -12,7 +12,8 @@ use Rattle.book.specs.declared.Bid.{Bid}
 use Rattle.book.specs.declared.Book.{Book}
 use Rattle.book.specs.Entries.{bidEntries, bookEntries, SameBook}
 use Rattle.book.specs.Rules.{segmentInRange, bookVerdict}
-use Rattle.book.proofs.Accepted.{AcceptedBid, book-accepted, all-accepted}
+use Rattle.book.specs.Accepted.{AcceptedBid}
+use Rattle.book.proofs.Accepted.{book-accepted, all-accepted}
 use Rattle.book.proofs.InRange.{in-range}
 use Rattle.forms.proofs.Digits.{few-digits}
 use Rattle.booktext.specs.Arrays.{SixSegments, Arrays}

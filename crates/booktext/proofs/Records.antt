@@ -9,7 +9,8 @@ use Rattle.lists.proofs.Padded.{length-padded, take-count}
 use Rattle.refusal.specs.declared.Verdict.the-variants.{Accepted}
 use Rattle.book.specs.Entries.{BidEntries, BookEntries, bidEntries, bookEntries}
 use Rattle.book.specs.Rules.{bookVerdict}
-use Rattle.book.proofs.Accepted.{AcceptedBid, book-accepted, all-accepted}
+use Rattle.book.specs.Accepted.{AcceptedBid}
+use Rattle.book.proofs.Accepted.{book-accepted, all-accepted}
 use Rattle.booktext.specs.Arrays.{SixSegments, Arrays}
 use Rattle.booktext.specs.WellFormed.{WellFormedBid, WellFormedBook}
 use Rattle.booktext.specs.Record.{emptySegment, emptyBid, bidRecord, bookRecord}

@@ -17,7 +17,8 @@ use Rattle.book.specs.declared.Segment.{Segment}
 use Rattle.book.specs.Entries.{BidEntries, BookEntries}
 use Rattle.book.specs.Rules.{segmentInRange, bookVerdict}
 use Rattle.book.specs.Room.{roomOfBids}
-use Rattle.book.proofs.Accepted.{AcceptedBid, book-accepted, all-accepted}
+use Rattle.book.specs.Accepted.{AcceptedBid}
+use Rattle.book.proofs.Accepted.{book-accepted, all-accepted}
 use Rattle.book.proofs.InRange.{in-range}
 use Rattle.booktext.specs.BookText.{segmentText, bidText, bookText}
 use Rattle.booktext.specs.WellFormed.{WellFormedBid, WellFormedBook}

@@ -14,11 +14,12 @@ use Rattle.money.specs.Price.{priceOf}
 use Rattle.book.specs.declared.Segment.{Segment}
 use Rattle.book.specs.Entries.{BidEntries}
 use Rattle.book.specs.Rules.{segmentInRange, segmentsRise, startNotNegative}
+use Rattle.book.specs.Accepted.{AcceptedBid}
 use Rattle.book.proofs.InRange.{InRange, in-range}
-use Rattle.book.proofs.Accepted.{AcceptedBid}
 use Rattle.supply.specs.Supply.{segment0, supplyOf, suppliesOf, on, inside, standsInside}
 use Rattle.supply.proofs.OneSegment.{on-high, step, beyond, price-there}
-use Rattle.choices.proofs.Sound.{SoundSegment, SoundSupply}
+use Rattle.choices.specs.Sound.{SoundSegment}
+use Rattle.choices.proofs.Sound.{SoundSupply}
 
 -- Each segment.
 

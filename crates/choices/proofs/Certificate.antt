@@ -10,7 +10,7 @@ use lib.Dec.{ltb}
 use Rattle.lists.proofs.Tests.{both-left, both-right}
 use Rattle.book.specs.declared.Segment.{Segment}
 use Rattle.supply.specs.Supply.{inside}
-use Rattle.choices.proofs.Choice.{width, cheaper, extra, extras}
+use Rattle.choices.specs.Choice.{width, cheaper, extra, extras}
 use Rattle.choices.proofs.Fill.{counts, cheaper-mono}
 
 -- what is taken is no dearer than u

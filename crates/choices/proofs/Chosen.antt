@@ -1,4 +1,4 @@
--- A segment chosen from each supply function, in book order, and a extra of its width: these are the allocations. Assumes nothing.
+-- A segment chosen from each supply function, in book order, and an extra of its width: these are the allocations. Assumes nothing.
 use Prim.Native.Nat.{ℕ, _+_, _-_, _≤_}
 use native.Mathlib.Omega.{arith}
 use mathlib.Core.Bool.{Bool, true, false, cond, or-true, false≢true}
@@ -14,8 +14,9 @@ use Rattle.supply.specs.Supply.{on, offers}
 use Rattle.supply.specs.Allocation.{costOf}
 use Rattle.divisions.specs.Division.{Allocation}
 use Rattle.divisions.specs.IsAward.{insideCount}
-use Rattle.choices.proofs.Choice.{width, placed}
-use Rattle.choices.proofs.Sound.{SoundSegment, SoundSupply}
+use Rattle.choices.specs.Choice.{width, placed}
+use Rattle.choices.specs.Sound.{SoundSegment}
+use Rattle.choices.proofs.Sound.{SoundSupply}
 use Rattle.choices.proofs.Fill.{cost}
 use Rattle.choices.proofs.Certificate.{insides}
 use Rattle.choices.proofs.Placed.{price-on}
@@ -42,7 +43,7 @@ offers-when [] s r m o = absurd (List·Memᴰ·not-nil m)
 offers-when (t ∷ ts) s r (here e) o = let o′ : on t r ≡ true = rw e at o in rw o′
 offers-when (t ∷ ts) s r (there m) o = rw (offers-when ts s r m o) (or-true (on t r))
 
--- a quantity that is offered is on a segment, with a extra of its width
+-- a quantity that is offered is on a segment, with an extra of its width
 record OnSegment (ss : List Segment) (r : ℕ) : Type 0 where
   segment : Segment
   extra : ℕ

@@ -11,7 +11,7 @@ use lib.IntN.{natAbs}
 use Rattle.book.specs.declared.Segment.{Segment}
 use Rattle.book.specs.Rules.{priceOn}
 use Rattle.supply.specs.Allocation.{bought}
-use Rattle.choices.proofs.Choice.{width, widthAt, cheaper, extra, extras}
+use Rattle.choices.specs.Choice.{width, widthAt, cheaper, extra, extras}
 
 -- the price at a segment's start, which is not negative
 unfoldable pub base : Segment → ℕ
@@ -28,7 +28,7 @@ cost [] xs = 0
 cost (s ∷ c) [] = 0
 cost (s ∷ c) (x ∷ xs) = base s + s .unit .0 * x + cost c xs
 
--- the box of a choice: a extra for each bidder, at most its width
+-- the box of a choice: an extra for each bidder, at most its width
 abbrev pub Box : List Segment → List ℕ → Type 0
 Box [] [] = Unit {0}
 Box [] (x ∷ xs) = ⊥

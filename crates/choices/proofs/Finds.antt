@@ -12,8 +12,8 @@ use Rattle.supply.specs.Allocation.{bought, costOf}
 use Rattle.divisions.specs.Award.{Priced, awardOf}
 use Rattle.divisions.proofs.IsBest.{IsBest, NotBetter, best-of, best-iff, best-unique}
 use Rattle.divisions.proofs.Award.{PricedDivision, award-best}
-use Rattle.choices.proofs.Choice.{placed}
-use Rattle.choices.proofs.Search.{searched}
+use Rattle.choices.specs.Choice.{placed}
+use Rattle.choices.specs.Search.{searched}
 use Rattle.choices.proofs.Sound.{SoundSupply}
 use Rattle.choices.proofs.Fill.{cost}
 use Rattle.choices.proofs.Leaves.{Leaf, search-best}

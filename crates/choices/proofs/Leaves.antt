@@ -8,8 +8,8 @@ use mathlib.Core.Path.{_≡_, refl, sym, _∙_}
 use Rattle.book.specs.declared.Segment.{Segment}
 use Rattle.divisions.specs.Award.{Priced, pick}
 use Rattle.divisions.proofs.IsBest.{IsBest, best-iff, best-pick}
-use Rattle.choices.proofs.Choice.{fits, filled}
-use Rattle.choices.proofs.Search.{each, leaf, search}
+use Rattle.choices.specs.Choice.{fits, filled}
+use Rattle.choices.specs.Search.{each, leaf, search}
 
 -- the quantities and cost of a complete choice that fits, from the choice so far and a segment of each supply function left
 abbrev pub Leaf : ℕ → List (List Segment) → List Segment → Priced → Type 0

@@ -1,5 +1,3 @@
-pub mod Choice
-pub mod Search
 pub mod Sound
 pub mod Fill
 pub mod Certificate

@@ -9,7 +9,7 @@ use mathlib.Core.Path.{_≡_, refl, ap, ap₂}
 use Rattle.book.specs.declared.Segment.{Segment}
 use Rattle.supply.specs.Allocation.{bought}
 use Rattle.divisions.proofs.Signed.{order}
-use Rattle.choices.proofs.Choice.{width}
+use Rattle.choices.specs.Choice.{width}
 use Rattle.choices.proofs.Fill.{cost, Box, Less, Wins}
 use Rattle.choices.proofs.Certificate.{Under, Open, Cert}
 

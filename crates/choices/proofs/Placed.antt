@@ -17,8 +17,8 @@ use Rattle.book.specs.Rules.{priceOn}
 use Rattle.supply.specs.Allocation.{bought}
 use Rattle.divisions.specs.Award.{givesMore}
 use Rattle.divisions.proofs.Order.{more-here, more-later}
-use Rattle.choices.proofs.Choice.{starts, ends, fits, width, placed, costWith}
-use Rattle.choices.proofs.Sound.{SoundSegment}
+use Rattle.choices.specs.Choice.{starts, ends, fits, width, placed, costWith}
+use Rattle.choices.specs.Sound.{SoundSegment}
 use Rattle.choices.proofs.Fill.{base, widths, cost, Box, Less}
 
 -- Prices, which are not negative.

@@ -21,7 +21,7 @@ pub struct Clearing {
     pub award: Award,
 }
 
-// A refusal, with no award beside it. It is pub for the clearing of texts.
+// A refusal, with no award beside it.
 pub fn refused(verdict: Verdict) -> Clearing
     ensures { λ r. ⌜ r ≡ refusedClearing verdict ⌝ }
 {

@@ -1,8 +1,9 @@
 -- For the contracts of this crate, of `meritorder`, of `search` and of `clearing`: what the record of a division holds.
-use Prim.Native.Nat.{ℕ}
-use mathlib.Core.Bool.{cond}
+use Prim.Native.Nat.{ℕ, _≤_}
+use mathlib.Core.Bool.{true, cond}
 use mathlib.Core.List.{List, map}
 use mathlib.Core.Option.{Option, some, none}
+use mathlib.Core.Path.{_≡_}
 use lib.ListN.{take}
 use Rattle.money.specs.declared.Blanks.{Blanks}
 use Rattle.divisions.specs.Award.{Priced}
@@ -19,3 +20,8 @@ divisionIn n b = record { cost = b .cost .0; quantities = take n (blanksIn (b .q
 -- if it holds one
 abbrev pub found : ℕ → MaybeDivision → Option Priced
 found n b = cond (b .found) (some (divisionIn n b)) none
+
+-- what `pick` asks: at most eight bidders, and a new division
+pub record Comparable (n : ℕ) (new : MaybeDivision) : Type 0 where
+  pub few : n ≤ 8
+  pub is-found : new .found ≡ true

@@ -1,11 +1,10 @@
 // Divisions as records, and compared as the award is fixed: by cost, and among equal costs by who gets more
 // first.
 ghost use mathlib.Core.Path.{_≡_};
-ghost use mathlib.Core.Bool.{true};
 ghost use Prim.Native.Nat.{_≤_};
 ghost use lib.ListN.{take};
 ghost use Rattle.divisions.specs.Award.{givesMore, better, pick};
-ghost use Rattle.comparison.specs.Records.{blanksIn, divisionIn, found};
+ghost use Rattle.comparison.specs.Records.{blanksIn, divisionIn, found, Comparable};
 use money::Blanks;
 use money::Cents;
 
@@ -55,10 +54,9 @@ fn better(a: MaybeDivision, b: MaybeDivision, n: usize) -> bool
     gives_more(quantities, others, n)
 }
 
-// The better of the division kept so far, if there is one, and a new one. It is pub for the search.
+// The better of the division kept so far, if there is one, and a new one.
 pub fn pick(kept: MaybeDivision, new: MaybeDivision, n: usize) -> MaybeDivision
-    requires { ⌜ n ≤ 8 ⌝ }
-    requires { ⌜ new .found ≡ true ⌝ }
+    requires { ⌜ Comparable n new ⌝ }
     ensures { λ r. ⌜ found n r ≡ pick (found n kept) (divisionIn n new) ⌝ }
 {
     if !kept.found {

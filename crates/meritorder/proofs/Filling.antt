@@ -19,8 +19,8 @@ use Rattle.book.specs.declared.Segment.{Segment}
 use Rattle.book.specs.Rules.{priceOn}
 use Rattle.book.proofs.InRange.{mostCents}
 use Rattle.divisions.specs.Award.{Priced}
-use Rattle.choices.proofs.Choice.{starts, ends, fits, width, extra, extras, placed, costWith, filled}
-use Rattle.choices.proofs.Sound.{SoundSegment}
+use Rattle.choices.specs.Choice.{starts, ends, fits, width, extra, extras, placed, costWith, filled}
+use Rattle.choices.specs.Sound.{SoundSegment}
 use Rattle.comparison.specs.Records.{blanksIn}
 use Rattle.meritorder.specs.Records.{firstSegments}
 use Rattle.meritorder.proofs.Segments.{rows-none, rows-next}
@@ -36,7 +36,7 @@ module _ (demand : ℕ) (c : List Segment) (low : ℕ) (starts-are : low ≡ sta
   unfolding fits
   not-too-many high e h = rw (le-leb (starts c) demand (omega arith), e)
 
--- a extra is no more than what is left, and with the start no more than the end
+-- an extra is no more than what is left, and with the start no more than the end
 pub extra-left : (left : ℕ) (s : Segment) (c : List Segment) → extra left s c ≤ left
 extra-left left s c = omega arith
 

@@ -10,7 +10,7 @@ use Rattle.money.proofs.Bounds.{small-fits}
 use Rattle.book.specs.declared.Segment.{Segment}
 use Rattle.book.specs.Rules.{priceOn}
 use Rattle.book.proofs.InRange as range
-use Rattle.choices.proofs.Sound.{SoundSegment}
+use Rattle.choices.specs.Sound.{SoundSegment}
 
 module _ (s : Segment) (r : ℕ) (sound : SoundSegment s) (within : r ≤ s .end .0) where
   few : r ≤ range.mostBlanks

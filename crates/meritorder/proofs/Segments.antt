@@ -1,4 +1,4 @@
--- The segmentsOf of a choice by columns. Assumes nothing.
+-- The segments of a choice by columns. Assumes nothing.
 use Prim.Native.Nat.{ℕ, zero, suc, _≤_, _<_}
 use native.Mathlib.Nat.{le-refl}
 use native.Mathlib.Decide.{decLt}
@@ -8,8 +8,8 @@ use mathlib.Core.Path.{_≡_, refl, ap₂, subst}
 use lib.IntN.{ℤ}
 use Rattle.lists.specs.All.{All}
 use Rattle.book.specs.declared.Segment.{Segment}
-use Rattle.choices.proofs.Choice.{starts, ends}
-use Rattle.choices.proofs.Sound.{SoundSegment}
+use Rattle.choices.specs.Choice.{starts, ends}
+use Rattle.choices.specs.Sound.{SoundSegment}
 use Rattle.meritorder.specs.Records.{sumOf, Small, segmentAt, firstSegments, segmentsOf, SoundColumns, Ranges}
 
 pub rows-none : (at : ℕ → Segment) → firstSegments at 0 ≡ []
@@ -20,13 +20,13 @@ pub rows-next : (at : ℕ → Segment) (n : ℕ) → firstSegments at (suc n) �
 unfolding firstSegments
 rows-next at n = refl
 
--- segmentsOf that are the same one by one are the same
+-- segments that are the same one by one are the same
 pub rows-same : (at at′ : ℕ → Segment) (n : ℕ) → ((i : ℕ) → i < n → at i ≡ at′ i) → firstSegments at n ≡ firstSegments at′ n
 unfolding firstSegments
 rows-same at at′ zero h = refl
 rows-same at at′ (suc n) h = ap₂ _∷_ (h n (le-refl (suc n))) (rows-same at at′ n (λ i l. h i (omega arith)))
 
--- what holds of every segmentAt holds of each
+-- what holds of all segments holds of each
 pub first-at : (P : Segment → Type 0) (at : ℕ → Segment) (n i : ℕ) → All P (firstSegments at n) → i < n → P (at i)
 unfolding firstSegments
 first-at P at zero i all h = absurd (omega arith)
@@ -55,7 +55,10 @@ module _ (s e u : List ℕ) (f : List ℤ) where
 
 module _ {s e : List ℕ} {n : ℕ} (ranges : Ranges s e n) where
   pub starts-small : Small s n
-  starts-small i h = omega (arith, ranges .order i h, ranges .high i h)
+  starts-small = record { few = ranges .few; high = λ i h. omega (arith, ranges .order i h, ranges .high i h) }
+
+  pub ends-small : Small e n
+  ends-small = record { few = ranges .few; high = ranges .high }
 
 module _ {s e u : List ℕ} {f : List ℤ} {n : ℕ} (sound : SoundColumns s e u f n) where
   pub sound-at : (i : ℕ) → i < n → SoundSegment (segmentAt s e u f i)

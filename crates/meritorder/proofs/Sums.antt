@@ -7,7 +7,7 @@ use mathlib.Core.Path.{_≡_, refl, sym, ap, _∙_}
 use borrow.Author.Tests.{le-leb, lt-leb}
 use lib.ListN.{getD}
 use Rattle.book.specs.declared.Segment.{Segment}
-use Rattle.choices.proofs.Choice.{width, widthAt, cheaper}
+use Rattle.choices.specs.Choice.{width, widthAt, cheaper}
 use Rattle.meritorder.specs.Records.{sumOf, firstSegments}
 use Rattle.meritorder.proofs.Segments.{rows-none, rows-next}
 

@@ -2,13 +2,12 @@
 ghost use mathlib.Core.Path.{_≡_};
 ghost use mathlib.Core.Bool.{true};
 ghost use mathlib.Core.List.{List};
-ghost use Prim.Native.Nat.{ℕ, _+_, _≤_, _<_};
+ghost use Prim.Native.Nat.{ℕ, _+_};
 ghost use lib.Dec.{leb};
 ghost use lib.IntN.{ℤ};
-ghost use Rattle.choices.proofs.Choice.{fits, cheaper, filled};
-ghost use Rattle.choices.proofs.Sound.{SoundSegment};
+ghost use Rattle.choices.specs.Choice.{fits, cheaper, filled};
 ghost use Rattle.comparison.specs.Records.{divisionIn};
-ghost use Rattle.meritorder.specs.Records.{sumOf, Small, segmentAt, segmentsOf, SoundColumns, Ranges, extraAt};
+ghost use Rattle.meritorder.specs.Records.{sumOf, Small, segmentAt, segmentsOf, SoundColumns, Ranges, SoundAt, Fillable, extraAt};
 use book::Segment;
 use comparison::MaybeDivision;
 use money::Blanks;
@@ -28,7 +27,6 @@ pub struct Choice {
 
 // The first n numbers of a column, added up afresh where a choice is tested.
 fn sum(column: &[u64; 8], n: usize) -> u64
-    requires { ⌜ n ≤ 8 ⌝ }
     requires { ⌜ Small (now column) n ⌝ }
     ensures { λ r. ⌜ r ≡ sumOf (now (column .entry)) n ⌝ }
 {
@@ -41,8 +39,7 @@ fn sum(column: &[u64; 8], n: usize) -> u64
     sum
 }
 
-// The starts add up to at most the demand, and the ends to at least it; prices do not matter. It is pub,
-// as `fill` is, for the search.
+// The starts add up to at most the demand, and the ends to at least it; prices do not matter.
 pub fn fits(starts: &[u64; 8], ends: &[u64; 8], n: usize, demand: Blanks) -> bool
     requires { ⌜ Ranges (now starts) (now ends) n ⌝ }
     ensures { λ r. ⌜ ((units : List ℕ) (fixed : List ℤ) → r ≡ fits (demand .0) (segmentsOf (now (starts .entry)) (now (ends .entry)) units fixed n)) ⌝ }
@@ -61,8 +58,7 @@ fn segment_at(
     fixed: &[i64; 8],
     i: usize,
 ) -> Segment
-    requires { ⌜ i < 8 ⌝ }
-    requires { ⌜ SoundSegment (segmentAt (now starts) (now ends) (now units) (now fixed) i) ⌝ }
+    requires { ⌜ SoundAt (now starts) (now ends) (now units) (now fixed) i ⌝ }
     ensures { λ r. ⌜ r ≡ segmentAt (now (starts .entry)) (now (ends .entry)) (now (units .entry)) (now (fixed .entry)) i ⌝ }
 {
     Segment {
@@ -142,8 +138,7 @@ pub fn fill(
     n: usize,
     demand: Blanks,
 ) -> MaybeDivision
-    requires { ⌜ SoundColumns (now starts) (now ends) (now units) (now fixed) n ⌝ }
-    requires { ⌜ fits (demand .0) (segmentsOf (now starts) (now ends) (now units) (now fixed) n) ≡ true ⌝ }
+    requires { ⌜ Fillable (now starts) (now ends) (now units) (now fixed) n (demand .0) ⌝ }
     ensures { λ r. ⌜ r .found ≡ true ⌝ }
     ensures { λ r. ⌜ divisionIn n r ≡ filled (demand .0) (segmentsOf (now (starts .entry)) (now (ends .entry)) (now (units .entry)) (now (fixed .entry)) n) ⌝ }
 {

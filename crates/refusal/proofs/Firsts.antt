@@ -4,6 +4,7 @@ use native.Mathlib.Omega.{arith}
 use mathlib.Core.Bool.{Bool, true, false}
 use mathlib.Core.List.{List, [], _∷_}
 use mathlib.Core.Path.{_≡_, refl}
+use Rattle.lists.specs.All.{All}
 use Rattle.refusal.specs.declared.Rule.{Rule}
 use Rattle.refusal.specs.declared.Verdict.{Verdict}
 use Rattle.refusal.specs.declared.Verdict.the-variants.{Accepted, Refused}
@@ -21,9 +22,18 @@ pub first-passed : (v : Verdict) (vs : List Verdict) → firstOf (v ∷ vs) ≡ 
 first-passed Accepted vs e = refl
 first-passed (Refused rule place) vs e = e
 
-pub rest-passed : (v : Verdict) (vs : List Verdict) → firstOf (v ∷ vs) ≡ Accepted → firstOf vs ≡ Accepted
+rest-passed : (v : Verdict) (vs : List Verdict) → firstOf (v ∷ vs) ≡ Accepted → firstOf vs ≡ Accepted
 rest-passed Accepted vs e = e
 rest-passed (Refused rule place) vs e = refused-not e
+
+-- nothing is refused exactly if every check accepts
+pub all-passed : (checks : List Verdict) → firstOf checks ≡ Accepted → All (λ v. v ≡ Accepted) checks
+all-passed [] e = tt
+all-passed (v ∷ vs) e = (first-passed v vs e, all-passed vs (rest-passed v vs e))
+
+pub passed-all : (checks : List Verdict) → All (λ v. v ≡ Accepted) checks → firstOf checks ≡ Accepted
+passed-all [] a = refl
+passed-all (v ∷ vs) a = rw (a .0) (passed-all vs (a .1))
 
 pub test-holds : (t : Bool) (rule : Rule) (place : ℕ) → unless t rule place ≡ Accepted → t ≡ true
 test-holds true rule place e = refl

@@ -9,7 +9,7 @@ use lib.ListN.{length, set, length-set}
 use lib.Seq.{getD-set-same, getD-set-other}
 use Rattle.lists.specs.All.{All}
 use Rattle.book.specs.declared.Segment.{Segment}
-use Rattle.choices.proofs.Sound.{SoundSegment}
+use Rattle.choices.specs.Sound.{SoundSegment}
 use Rattle.meritorder.specs.declared.Choice.{Choice}
 use Rattle.meritorder.specs.Records.{segmentAt, firstSegments, SoundColumns}
 use Rattle.meritorder.proofs.Segments.{rows-next, rows-same}

@@ -16,8 +16,8 @@ use Rattle.book.proofs.Records.{noBid}
 use Rattle.book.proofs.Bids.{length-entries, entry-at}
 use Rattle.supply.specs.Supply.{segment0, supplyOf, suppliesOf}
 use Rattle.divisions.specs.Award.{Priced, pick}
-use Rattle.choices.proofs.Choice.{fits, filled}
-use Rattle.choices.proofs.Search.{each, leaf, search, searched}
+use Rattle.choices.specs.Choice.{fits, filled}
+use Rattle.choices.specs.Search.{each, leaf, search, searched}
 use Rattle.comparison.specs.declared.MaybeDivision.{MaybeDivision}
 use Rattle.comparison.specs.Records.{found}
 use Rattle.meritorder.specs.declared.Choice.{Choice}

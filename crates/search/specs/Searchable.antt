@@ -1,9 +1,36 @@
--- For the contracts of this crate: what the search asks of a book. Accepted books have it, and so have the books less a bid.
-use Prim.Native.Nat.{_≤_}
+-- For the contracts of this crate: what the search and its steps ask of a book and of a choice.
+use Prim.Native.Nat.{ℕ, _+_, _≤_, _<_}
+use mathlib.Core.Path.{_≡_}
 use Rattle.lists.specs.All.{All}
-use Rattle.book.specs.Entries.{BookEntries}
-use Rattle.book.proofs.Accepted.{AcceptedBid}
+use Rattle.book.specs.declared.Segment.{Segment}
+use Rattle.book.specs.declared.Bid.{Bid}
+use Rattle.book.specs.declared.Book.{Book}
+use Rattle.book.specs.Entries.{BookEntries, bidEntries, bookEntries}
+use Rattle.book.specs.Accepted.{AcceptedBid}
+use Rattle.choices.specs.Sound.{SoundSegment}
+use Rattle.meritorder.specs.declared.Choice.{Choice}
+use Rattle.meritorder.specs.Records.{Sound}
 
+-- what the search asks of a book: accepted books have it, and so have the books less a bid
 pub record Searchable (b : BookEntries) : Type 0 where
   pub few : b .count ≤ 8
   pub bids : All AcceptedBid (b .bids)
+
+-- what `choose` asks: a choice with room for a bidder, and a segment
+pub record Choosable (c : Choice) (s : Segment) : Type 0 where
+  pub choice : Sound c
+  pub segment : SoundSegment s
+  pub room : c .count < 8
+
+-- what `last_bidder` asks: an accepted bid, and a choice with room for its bidder
+pub record OneLeft (b : Bid) (c : Choice) : Type 0 where
+  pub bid : AcceptedBid (bidEntries b)
+  pub choice : Sound c
+  pub room : c .count < 8
+
+-- what `search` asks: a choice for the bidders before `at`, and a bidder after it
+pub record SomeLeft (book : Book) (at : ℕ) (c : Choice) : Type 0 where
+  pub searchable : Searchable (bookEntries book)
+  pub choice : Sound c
+  pub is-at : c .count ≡ at
+  pub further : at + 1 < book .count

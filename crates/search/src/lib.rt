@@ -2,17 +2,15 @@
 ghost use mathlib.Core.Path.{_≡_};
 ghost use mathlib.Core.Bool.{false};
 ghost use mathlib.Core.List.{[], _∷_};
-ghost use Prim.Native.Nat.{_+_, _≤_, _<_};
+ghost use Prim.Native.Nat.{_+_};
 ghost use lib.ListN.{drop};
 ghost use Rattle.book.specs.Entries.{bidEntries, bookEntries};
-ghost use Rattle.book.proofs.Accepted.{AcceptedBid};
 ghost use Rattle.supply.specs.Supply.{supplyOf, suppliesOf};
 ghost use Rattle.divisions.specs.Award.{awardOf};
-ghost use Rattle.choices.proofs.Search.{leaf, search};
-ghost use Rattle.choices.proofs.Sound.{SoundSegment};
+ghost use Rattle.choices.specs.Search.{leaf, search};
 ghost use Rattle.comparison.specs.Records.{found};
 ghost use Rattle.meritorder.specs.Records.{segmentsOf, SoundColumns, chosen, Sound};
-ghost use Rattle.search.specs.Searchable.{Searchable};
+ghost use Rattle.search.specs.Searchable.{Searchable, Choosable, OneLeft, SomeLeft};
 use book::Bid;
 use book::Book;
 use book::Segment;
@@ -43,9 +41,7 @@ fn leaf<'a>(
 
 // The choice with a segment for the next bidder.
 fn choose(c: Choice, s: Segment) -> Choice
-    requires { ⌜ Sound c ⌝ }
-    requires { ⌜ SoundSegment s ⌝ }
-    requires { ⌜ c .count < 8 ⌝ }
+    requires { ⌜ Choosable c s ⌝ }
     ensures { λ r. ⌜ r .count ≡ c .count + 1 ⌝ }
     ensures { λ r. ⌜ chosen r ≡ s ∷ chosen c ⌝ }
     ensures { λ r. ⌜ Sound r ⌝ }
@@ -65,9 +61,7 @@ fn choose(c: Choice, s: Segment) -> Choice
 // returns the best division so far. Most of the time is spent here, so the choice is not copied for
 // each segment.
 fn last_bidder(demand: Blanks, bid: Bid, c: Choice, best: MaybeDivision) -> MaybeDivision
-    requires { ⌜ AcceptedBid (bidEntries bid) ⌝ }
-    requires { ⌜ Sound c ⌝ }
-    requires { ⌜ c .count < 8 ⌝ }
+    requires { ⌜ OneLeft bid c ⌝ }
     ensures { λ r. ⌜ found (c .count + 1) r ≡ search (demand .0) (supplyOf (bidEntries bid) ∷ []) (chosen c) (found (c .count + 1) best) ⌝ }
 {
     let at = c.count;
@@ -100,9 +94,7 @@ fn last_bidder(demand: Blanks, bid: Bid, c: Choice, best: MaybeDivision) -> Mayb
 // itself for the bidders after it, of whom there is at least one; where only one is left, `last_bidder`
 // is called, which is not passed the book: it would be copied. It returns the best division so far.
 fn search(book: Book, at: usize, c: Choice, best: MaybeDivision) -> MaybeDivision
-    requires { ⌜ Searchable (bookEntries book) ⌝ }
-    requires { ⌜ Sound c ⌝ }
-    requires { ⌜ (at + 1 < book .count) × (c .count ≡ at) ⌝ }
+    requires { ⌜ SomeLeft book at c ⌝ }
     ensures { λ r. ⌜ found (book .count) r ≡ search (book .demand .0) (drop at (suppliesOf (bookEntries book .bids))) (chosen c) (found (book .count) best) ⌝ }
 {
     let demand = book.demand;
@@ -146,8 +138,8 @@ fn no_division() -> MaybeDivision
     }
 }
 
-// The award of a book's bids, if they have a division: the best of all divisions. It is pub for
-// clearing, which asks for it with the bids of an accepted book, or with all but one of them.
+// The award of a book's bids, if they have a division: the best of all divisions. Clearing asks for it
+// with the bids of an accepted book, and with all but one of them.
 pub fn best_division(book: Book) -> MaybeDivision
     requires { ⌜ Searchable (bookEntries book) ⌝ }
     ensures { λ r. ⌜ found (book .count) r ≡ awardOf (book .demand .0) (suppliesOf (bookEntries book .bids)) ⌝ }

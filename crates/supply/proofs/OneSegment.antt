@@ -13,7 +13,7 @@ use Rattle.lists.proofs.Members.{in-at}
 use Rattle.book.specs.declared.Segment.{Segment}
 use Rattle.book.specs.Entries.{BidEntries}
 use Rattle.book.specs.Rules.{segmentsRise, priceOn}
-use Rattle.book.proofs.Accepted.{AcceptedBid}
+use Rattle.book.specs.Accepted.{AcceptedBid}
 use Rattle.book.proofs.InRange.{within-low, within-high}
 use Rattle.supply.specs.Supply.{segment0, supplyOf, on, priceAt}
 

@@ -7,7 +7,8 @@ use Rattle.refusal.specs.declared.Verdict.the-variants.{Accepted}
 use Rattle.book.specs.declared.Book.{Book}
 use Rattle.book.specs.Entries.{BookEntries, bookEntries}
 use Rattle.book.specs.Rules.{bookVerdict}
-use Rattle.book.proofs.Accepted.{AcceptedBid, book-accepted, all-accepted}
+use Rattle.book.specs.Accepted.{AcceptedBid}
+use Rattle.book.proofs.Accepted.{book-accepted, all-accepted}
 use Rattle.search.specs.Searchable.{Searchable}
 use Rattle.without.specs.Without.{bookWithout}
 

@@ -1,9 +1,12 @@
 -- The total without a bidder: document 01, section "The sheet".
-use Prim.Native.Nat.{ℕ, suc, _-_}
+use Prim.Native.Nat.{ℕ, suc, _-_, _≤_, _<_}
 use mathlib.Core.List.{_++_}
 use mathlib.Core.Option.{Option, some, none}
+use mathlib.Core.Path.{_≡_}
 use lib.ListN.{take, drop}
+use Rattle.refusal.specs.declared.Verdict.the-variants.{Accepted}
 use Rattle.book.specs.Entries.{BookEntries}
+use Rattle.book.specs.Rules.{bookVerdict}
 use Rattle.divisions.specs.Award.{Priced, awardOfBook}
 use Rattle.award.specs.declared.Total.{Total}
 use Rattle.award.specs.declared.Total.the-variants.{Amount, Nothing}
@@ -20,3 +23,13 @@ totalOf (some award) = Amount (record { 0 = award .cost })
 -- the total that clearing would give if the bidder with index i alone had not bid
 unfoldable pub totalWithout : BookEntries → ℕ → Total
 totalWithout b i = totalOf (awardOfBook (bookWithout i b))
+
+-- what `book_without` asks: the index of one of at most eight bids
+pub record OneOf (n i : ℕ) : Type 0 where
+  pub within : i < n
+  pub few : n ≤ 8
+
+-- what `total_without` asks: an accepted book, and the index of one of its bids
+pub record BidOf (b : BookEntries) (i : ℕ) : Type 0 where
+  pub accepted : bookVerdict b ≡ Accepted
+  pub within : i < b .count

@@ -1,16 +1,13 @@
 // What a bidder changes by its bid: the book less that bid, and the total that clearing would give for it.
 ghost use mathlib.Core.Path.{_≡_};
-ghost use Prim.Native.Nat.{_≤_, _<_};
-ghost use Rattle.refusal.specs.declared.Verdict.the-variants.{Accepted};
 ghost use Rattle.book.specs.Entries.{bookEntries};
-ghost use Rattle.book.specs.Rules.{bookVerdict};
-ghost use Rattle.without.specs.Without.{bookWithout, totalWithout};
+ghost use Rattle.without.specs.Without.{bookWithout, totalWithout, OneOf, BidOf};
 use award::Total;
 use book::Book;
 
 // The book less the bid with this index.
 fn book_without(book: Book, at: usize) -> Book
-    requires { ⌜ (at < book .count) × (book .count ≤ 8) ⌝ }
+    requires { ⌜ OneOf (book .count) at ⌝ }
     ensures { λ r. ⌜ bookEntries r ≡ bookWithout at (bookEntries book) ⌝ }
 {
     let count = book.count - 1;
@@ -25,10 +22,9 @@ fn book_without(book: Book, at: usize) -> Book
     left
 }
 
-// The total that clearing gives for the bids left: `Nothing` only where they have no division. It is pub for the rows of an award.
+// The total that clearing gives for the bids left: `Nothing` only where they have no division.
 pub fn total_without(book: Book, at: usize) -> Total
-    requires { ⌜ bookVerdict (bookEntries book) ≡ Accepted ⌝ }
-    requires { ⌜ at < book .count ⌝ }
+    requires { ⌜ BidOf (bookEntries book) at ⌝ }
     ensures { λ r. ⌜ r ≡ totalWithout (bookEntries book) at ⌝ }
 {
     let left = book_without(book, at);

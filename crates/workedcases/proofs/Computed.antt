@@ -9,8 +9,8 @@ use Rattle.booktext.specs.BookText.{segmentText, bidText, bookText}
 use Rattle.supply.specs.Supply.{on, priceAt, numberFrom, segmentNumber}
 use Rattle.sampling.specs.Sampling.{printedTable, sampleAbove, sampleOf}
 use Rattle.divisions.specs.Award.{givesMore, better, pick}
-use Rattle.choices.proofs.Choice.{fits, width, filled}
-use Rattle.choices.proofs.Search.{each, leaf, search}
+use Rattle.choices.specs.Choice.{fits, width, filled}
+use Rattle.choices.specs.Search.{each, leaf, search}
 use Rattle.award.specs.Award.{rowOf}
 use Rattle.sheettext.specs.Sheet.{totalText, rowText, sheetText, refusalText}
 use Rattle.without.specs.Without.{bookWithout}

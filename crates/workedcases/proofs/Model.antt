@@ -13,10 +13,11 @@ use Rattle.refusal.specs.declared.Verdict.{Verdict}
 use Rattle.refusal.specs.declared.Verdict.the-variants.{Accepted, Refused}
 use Rattle.book.specs.Entries.{BidEntries, BookEntries}
 use Rattle.book.specs.Rules.{bookVerdict}
-use Rattle.book.proofs.Accepted.{AcceptedBid, all-accepted}
+use Rattle.book.specs.Accepted.{AcceptedBid}
+use Rattle.book.proofs.Accepted.{all-accepted}
 use Rattle.supply.specs.Supply.{suppliesOf}
 use Rattle.divisions.specs.Award.{Priced, awardOfBook}
-use Rattle.choices.proofs.Search.{searched}
+use Rattle.choices.specs.Search.{searched}
 use Rattle.choices.proofs.Accepted.{sound-supplies}
 use Rattle.choices.proofs.Finds.{finds}
 use Rattle.award.specs.declared.Total.{Total}

@@ -30,12 +30,16 @@ returns-2 c =
     c .refused2 .ensures
     ∙ clear-none _ (best .result) (best .ensures) (accepted (b .before)) (not-true (best .result .found) (c .before .if1 .taken))
 
+-- The branch with a division, seen from where its parts are copied.
+abbrev covered : tie.After-total → tie.Else1
+covered c = c .before .before .before
+
 rows-requires : tie.Need-rows-requires
-rows-requires c κs = accepted (c .before .before .before .before .before .before)
+rows-requires c κs = accepted (covered c .before .before .before)
 
 returns-3 : tie.Need-returns-3
 returns-3 c =
-    let e = c .before .before .before .before in
+    let e = covered (c .before) in
     let b = e .before .before in
     let best = b .best-division in
     clear-award _ (best .result) (best .ensures) (accepted (b .before)) (not-false (best .result .found) (e .if1 .left)) _ (c .rows .ensures)

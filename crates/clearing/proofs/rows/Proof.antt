@@ -6,8 +6,9 @@ use borrow.Author.Needs.{needs}
 use lib.ListN.{length, getD}
 use Rattle.lists.proofs.Slices.{length-held}
 use Rattle.book.specs.Entries.{bidEntries}
+use Rattle.book.specs.Accepted.{AcceptedBid}
 use Rattle.book.proofs.Records.{noBid}
-use Rattle.book.proofs.Accepted.{AcceptedBid, few-bids, bid-at}
+use Rattle.book.proofs.Accepted.{few-bids, bid-at}
 use Rattle.award.specs.Award.{rowOf}
 use Rattle.clearing.proofs.Made.{Made, made-none, made-next, made-all}
 use Rattle.clearing.proofs.rows.Statement.{statement}
@@ -18,6 +19,13 @@ Inv-loop book quantities rows₀ i₀ rows i = Made book quantities rows i
 
 abbrev μ-loop : tie.MeasureT-loop
 μ-loop book quantities rows₀ i₀ rows i = book .count - i
+
+-- Places, seen from later ones: the start from a turn, and the turn from its total.
+abbrev start : tie.In-loop Inv-loop μ-loop → tie.Start Inv-loop μ-loop
+start c = c .before .before .before
+
+abbrev turn : tie.After-total-without Inv-loop μ-loop → tie.In-loop Inv-loop μ-loop
+turn c = c .before .before .before
 
 -- What is known throughout: the record holds the bids, at most eight, and as many quantities, and each bid is accepted.
 
@@ -30,26 +38,25 @@ quantities-held c = search (length-held, c .good)
 few : (c : tie.Start Inv-loop μ-loop) → c .args .t1 .count ≤ 8
 few c = few-bids (c .args .t1) (c .pre) (held c)
 
-this-accepted : (c : tie.In-loop Inv-loop μ-loop)
-    → AcceptedBid (bidEntries (getD (c .before .before .before .args .t1 .bids) (c .before .loop .i) noBid))
+this-accepted : (c : tie.In-loop Inv-loop μ-loop) → AcceptedBid (bidEntries (getD (start c .args .t1 .bids) (c .before .loop .i) noBid))
 this-accepted c =
-    let s = c .before .before .before in
+    let s = start c in
     bid-at (s .args .t1) (s .pre) (held s) (c .before .loop .i) (c .loop-test .taken)
 
 loop-holds : tie.Need-loop-holds Inv-loop μ-loop
 loop-holds c = made-none (c .before .args .t1) (c .before .args .t2) (c .no-row .result) (c .no-row .ensures)
 
 total-without-requires : tie.Need-total-without-requires Inv-loop μ-loop
-total-without-requires c κs = (c .before .before .before .before .before .pre, omega arith)
+total-without-requires c κs = record { accepted = start (c .before .before) .pre; within = omega arith }
 
 row-of-requires : tie.Need-row-of-requires Inv-loop μ-loop
-row-of-requires c κs = let kept = this-accepted (c .before .before .before) in (kept .count-high, kept .ranges)
+row-of-requires c κs = let kept = this-accepted (turn c) in (kept .count-high, kept .ranges)
 
 loop-again : tie.Need-loop-again Inv-loop μ-loop
 loop-again c =
-    let l = c .before .before .before .before in
+    let l = turn (c .before) in
     let at = l .before .loop in
-    let s = l .before .before .before in
+    let s = start l in
     let row = c .row-of .ensures ∙ ap (rowOf _ _) (c .before .total-without .ensures) in
     made-next (s .args .t1) (s .args .t2) (few s) (held s) (quantities-held s) (at .i) (l .loop-test .taken) (at .rows) _ (at .inv) row
 
@@ -67,15 +74,15 @@ rows-spec =
     μ-loop
     (λ c κs. search needs)
     loop-holds
-    (λ c. omega (arith, few (c .before .before .before)))
-    (λ c. omega (arith, few (c .before .before .before)))
-    (λ c. omega (arith, few (c .before .before .before .before)))
-    (λ c. omega (arith, few (c .before .before .before .before)))
+    (λ c. omega (arith, few (start c)))
+    (λ c. omega (arith, few (start c)))
+    (λ c. omega (arith, few (start (c .before))))
+    (λ c. omega (arith, few (start (c .before))))
     total-without-requires
     row-of-requires
-    (λ c. omega (arith, few (c .before .before .before .before .before .before .before)))
-    (λ c. omega (arith, few (c .before .before .before .before .before .before .before)))
-    (λ c. omega (arith, few (c .before .before .before .before .before .before .before)))
+    (λ c. omega (arith, few (start (turn (c .before)))))
+    (λ c. omega (arith, few (start (turn (c .before)))))
+    (λ c. omega (arith, few (start (turn (c .before)))))
     (λ c. search needs)
     loop-again
     returns)

@@ -7,21 +7,28 @@ use Rattle.comparison.proofs.Comparing.{dearer, cheaper, as-cheap}
 use Rattle.comparison.proofs.better.Statement.{statement}
 use Rattle.comparison.proofs.better.Tie as tie
 
+-- Places, seen from later ones: the start from the first comparison of costs, and this from the second.
+abbrev start : tie.After-at-most → tie.Start
+start c = c .before .before .before
+
+abbrev first : tie.After-at-most2 → tie.After-at-most
+first c = c .before .before
+
 returns : tie.Need-returns
 returns c =
-    let a = c .before .before .before .before .args in
+    let a = start (c .before) .args in
     sym (dearer (divisionIn (a .n) (a .a)) (divisionIn (a .n) (a .b)) (failed (c .before .at-most .ensures) (c .if1 .taken)))
 
 returns-2 : tie.Need-returns-2
 returns-2 c =
-    let a = c .before .before .before .before .before .before .args in
+    let a = start (first (c .before)) .args in
     sym (cheaper (divisionIn (a .n) (a .a)) (divisionIn (a .n) (a .b)) (failed (c .before .at-most2 .ensures) (c .if2 .taken)))
 
 returns-3 : tie.Need-returns-3
 returns-3 c =
     let f = c .before .before .before in
     let e = f .before .before in
-    let a = e .before .before .before .before .args in
+    let a = start (e .before) .args in
     let at-most = passed (e .before .at-most .ensures) (e .if1 .left) in
     let at-least = passed (f .before .at-most2 .ensures) (f .if2 .left) in
     c .gives-more .ensures ∙ sym (as-cheap (divisionIn (a .n) (a .a)) (divisionIn (a .n) (a .b)) at-most at-least)

@@ -22,19 +22,24 @@ held c =
     let b : length (c .args .t2) ≡ 8 = search needs in
     (omega arith, omega arith)
 
+-- A turn, seen from where its two quantities are compared.
+abbrev turn : tie.After-struct-known2 Inv-loop μ-loop → tie.In-loop Inv-loop μ-loop
+turn c = c .before .before .before .before
+
 loop-holds : tie.Need-loop-holds Inv-loop μ-loop
 loop-holds c = (omega arith, refl)
 
 returns : tie.Need-returns Inv-loop μ-loop
 returns c =
-    let l = c .before .before .before .before .before in
+    let l = turn (c .before) in
     let s = l .before .before in
     let i = l .before .loop in
     sym (more-here (s .args .t1) (s .args .t2) (i .i) (s .args .n) (l .loop-test .taken) (held s .0) (held s .1) (c .if1 .taken)) ∙ i .inv .1
 
 returns-2 : tie.Need-returns-2 Inv-loop μ-loop
 returns-2 c =
-    let l = c .before .before .before .before .before .before .before .before in
+    let e = c .before .before .before in
+    let l = turn (e .before) in
     let s = l .before .before in
     let i = l .before .loop in
     sym (less-here (s .args .t1) (s .args .t2) (i .i) (s .args .n) (l .loop-test .taken) (held s .0) (held s .1) (c .if2 .taken)) ∙ i .inv .1
@@ -42,7 +47,7 @@ returns-2 c =
 loop-again : tie.Need-loop-again Inv-loop μ-loop
 loop-again c =
     let e = c .before .before .before in
-    let l = e .before .before .before .before .before in
+    let l = turn (e .before) in
     let s = l .before .before in
     let i = l .before .loop in
     let same = same-here (s .args .t1) (s .args .t2) (i .i) (s .args .n) (l .loop-test .taken) (held s .0) (held s .1) (c .if2 .left) (e .if1 .left) in

@@ -1,3 +1,4 @@
+-- The sum so far is the width of the segments passed that are no dearer.
 use Prim.Native.Nat.{ℕ, _+_, _-_}
 use native.Mathlib.Omega.{arith}
 use mathlib.Core.Logic.{⊎-elim}
@@ -5,8 +6,8 @@ use mathlib.Core.Path.{sym, ap, subst⁻¹, _∙_}
 use borrow.Author.Needs.{needs}
 use borrow.Author.Tests.{leb-true, leb-false}
 use Rattle.book.specs.declared.Segment.{Segment}
-use Rattle.choices.proofs.Choice.{widthAt}
-use Rattle.choices.proofs.Sound.{SoundSegment}
+use Rattle.choices.specs.Choice.{widthAt}
+use Rattle.choices.specs.Sound.{SoundSegment}
 use Rattle.meritorder.specs.Records.{segmentAt}
 use Rattle.meritorder.proofs.Segments.{sound-at}
 use Rattle.meritorder.proofs.Sums.{Summed, summed-none, summed-next, summed-all}
@@ -35,15 +36,16 @@ loop-holds : tie.Need-loop-holds Inv-loop μ-loop
 loop-holds c = summed-none _ _ (cheaper-none _ _)
 
 segment-at-requires : tie.Need-segment-at-requires Inv-loop μ-loop
-segment-at-requires c κs = (omega (arith, c .before .before .pre .few), sound c)
+segment-at-requires c κs = record { within = omega (arith, c .before .before .pre .few); sound = sound c }
 
 sub-sum : tie.Need-sub-sum Inv-loop μ-loop
 sub-sum c = here (c .before .before .before) .order
 
 add-sum : tie.Need-add-sum Inv-loop μ-loop
 add-sum c =
-    let high = here (c .before .before .before) in
-    omega (arith, c .before .before .before .before .before .before .pre .few)
+    let r = c .before .before .before in
+    let high = here r in
+    omega (arith, r .before .before .before .pre .few)
 
 loop-again : tie.Need-loop-again Inv-loop μ-loop
 loop-again c =

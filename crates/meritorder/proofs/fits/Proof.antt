@@ -1,13 +1,13 @@
+-- The two sums of columns are those of the starts and of the ends, whatever the prices are.
 use mathlib.Core.Path.{sym, _∙_}
-use borrow.Author.Needs.{needs}
 use Rattle.meritorder.specs.Records.{segmentsOf}
-use Rattle.meritorder.proofs.Segments.{starts-sum, ends-sum, starts-small}
+use Rattle.meritorder.proofs.Segments.{starts-sum, ends-sum, starts-small, ends-small}
 use Rattle.meritorder.proofs.Filling.{too-many, not-too-many}
 use Rattle.meritorder.proofs.fits.Statement.{statement}
 use Rattle.meritorder.proofs.fits.Tie as tie
 
 sum-requires : tie.Need-sum-requires
-sum-requires c κs = (c .pre .few, starts-small (c .pre))
+sum-requires c κs = starts-small (c .pre)
 
 returns : tie.Need-returns
 returns c units fixed =
@@ -28,4 +28,4 @@ returns-2 c units fixed =
     not-too-many (a .demand .0) chosen (low .sum .result) is-low (high .sum2 .result) is-high (high .before .if1 .left)
 
 pub fits-spec : {M : Type 1} → statement M
-fits-spec = tie.close (tie.spec sum-requires returns (λ c κs. search needs) returns-2)
+fits-spec = tie.close (tie.spec sum-requires returns (λ c κs. ends-small (c .before .before .before .pre)) returns-2)

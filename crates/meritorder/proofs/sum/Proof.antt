@@ -1,3 +1,4 @@
+-- The sum so far is that of the numbers passed, and eight numbers of at most a million do not overflow.
 use Prim.Native.Nat.{_-_}
 use native.Mathlib.Omega.{arith}
 use mathlib.Core.Path.{refl}
@@ -20,7 +21,7 @@ loop-holds c = summed-none _ _ (sum-none _)
 add-sum : tie.Need-add-sum Inv-loop μ-loop
 add-sum c =
     let l = c .before in
-    let high = l .before .before .pre .1 (l .before .loop .i) (l .loop-test .taken) in
+    let high = l .before .before .pre .high (l .before .loop .i) (l .loop-test .taken) in
     omega arith
 
 loop-again : tie.Need-loop-again Inv-loop μ-loop
@@ -28,7 +29,7 @@ loop-again c =
     let l = c .before in
     let at = l .before .loop in
     let s = l .before .before in
-    let high = s .pre .1 (at .i) (l .loop-test .taken) in
+    let high = s .pre .high (at .i) (l .loop-test .taken) in
     summed-next (at .inv) _ (getD (s .args .column .now) (at .i) 0) (sum-next _ (at .i)) (l .loop-test .taken) high refl
 
 returns : tie.Need-returns Inv-loop μ-loop

@@ -1,3 +1,4 @@
+-- The segment stands at the next place of the columns, and those before it are as they were.
 use Prim.Native.Nat.{_+_}
 use mathlib.Core.Path.{refl}
 use borrow.Author.Needs.{needs}
@@ -20,10 +21,10 @@ returns c =
     let s = c .before in
     let a = s .args in
     let at = a .c .count in
-    let sound = s .pre .1 .0 in
-    let few = s .pre .1 .1 in
-    let more = rows-put (a .c) at (a .s) _ (at + 1) (held s) few (fixed-kept (a .s) sound) in
-    (refl, (more, sound-put (put (a .c) at (a .s) _ (at + 1)) at (a .s) _ few more sound (s .pre .0 .each)))
+    let sound = s .pre .segment in
+    let room = s .pre .room in
+    let more = rows-put (a .c) at (a .s) _ (at + 1) (held s) room (fixed-kept (a .s) sound) in
+    (refl, (more, sound-put (put (a .c) at (a .s) _ (at + 1)) at (a .s) _ room more sound (s .pre .choice .each)))
 
 pub choose-spec : {M : Type 1} → statement M
 choose-spec =

@@ -1,16 +1,18 @@
+-- The best so far is that of the segments tried, each at the last place of a choice that keeps the other bidders as they were.
 use Prim.Native.Nat.{suc, _+_, _-_, _≤_}
 use native.Mathlib.Omega.{arith}
 use mathlib.Core.List.{[], _∷_}
-use mathlib.Core.Path.{_≡_, sym, _∙_}
+use mathlib.Core.Path.{_≡_, sym, ap, _∙_}
 use borrow.Author.Needs.{needs}
 use lib.ListN.{drop}
 use mir.Syntax.{w64}
 use mir.Val.{toZ, ofZ}
 use Rattle.lists.proofs.Slices.{length-held}
+use Rattle.book.specs.declared.Segment.{Segment}
 use Rattle.book.specs.Entries.{bidEntries}
 use Rattle.supply.specs.Supply.{supplyOf}
-use Rattle.choices.proofs.Search.{each}
-use Rattle.choices.proofs.Sound.{SoundSegment}
+use Rattle.choices.specs.Search.{each}
+use Rattle.choices.specs.Sound.{SoundSegment}
 use Rattle.choices.proofs.Accepted.{sound-segment-at}
 use Rattle.meritorder.specs.declared.Choice.{Choice}
 use Rattle.comparison.specs.Records.{found}
@@ -37,27 +39,34 @@ held s = record {
   fixed = search (length-held, s .good .1 .1 .0);
 }
 
+-- Places, seen from later ones: the start from where a segment is tried, and this from where the choice is complete.
+abbrev start : tie.After-segment-of Inv-loop μ-loop → tie.Start Inv-loop μ-loop
+start c = c .before .before .before .before
+
+abbrev turn : tie.After-leaf-arg4 Inv-loop μ-loop → tie.After-segment-of Inv-loop μ-loop
+turn c = c .before .before .before .before .before .before
+
 -- In a turn: the segment that is tried, and the choice with it.
 
 abbrev with : tie.After-segment-of Inv-loop μ-loop → Choice
 with c =
     let i = c .before .before .loop in
     let t = c .segment-of .result in
-    put (i .full) (c .before .before .before .before .args .c .count) t (toZ w64 (ofZ w64 (t .fixed .0))) (i .full .count)
+    put (i .full) (start c .args .c .count) t (toZ w64 (ofZ w64 (t .fixed .0))) (i .full .count)
 
 sound : (c : tie.After-segment-of Inv-loop μ-loop) → SoundSegment (c .segment-of .result)
 sound c =
-    let s = c .before .before .before .before in
+    let s = start c in
     let tried-next = c .segment-of .ensures in
-    rw (tried-next .1) (sound-segment-at (bidEntries (s .args .bid)) (s .pre .0) _ (tried-next .0))
+    rw (tried-next .1) (sound-segment-at (bidEntries (s .args .bid)) (s .pre .bid) _ (tried-next .0))
 
 more : (c : tie.After-segment-of Inv-loop μ-loop)
-    → let s = c .before .before .before .before .args in
+    → let s = start c .args in
     rowsIn (with c) (s .c .count + 1) ≡ c .segment-of .result ∷ chosen (s .c)
 more c =
-    let s = c .before .before .before .before in
+    let s = start c in
     let t = c .segment-of .result in
-    kept-rows (c .before .before .loop .inv .1) t _ (c .before .before .loop .full .count) (s .pre .1 .1) (fixed-kept t (sound c))
+    kept-rows (c .before .before .loop .inv .1) t _ (c .before .before .loop .full .count) (s .pre .room) (fixed-kept t (sound c))
 
 loop-holds : tie.Need-loop-holds Inv-loop μ-loop
 loop-holds c =
@@ -66,24 +75,25 @@ loop-holds c =
     (omega arith, kept-none _ _ (held s), each-none _ (supplyOf (bidEntries b)) _ (b .count + 1) (few-segments b))
 
 segment-of-requires : tie.Need-segment-of-requires Inv-loop μ-loop
-segment-of-requires c κs = (c .before .before .before .pre .0 .count-high, omega (arith, c .before .loop .inv .0))
+segment-of-requires c κs = (c .before .before .before .pre .bid .count-high, omega (arith, c .before .loop .inv .0))
 
 leaf-requires : tie.Need-leaf-requires Inv-loop μ-loop
 leaf-requires c κs =
-    let t = c .before .before .before .before .before .before in
-    let s = t .before .before .before .before in
-    sound-put (with t) _ (t .segment-of .result) _ (s .pre .1 .1) (more t) (sound t) (s .pre .1 .0 .each)
+    let t = turn c in
+    let s = start t in
+    sound-put (with t) _ (t .segment-of .result) _ (s .pre .room) (more t) (sound t) (s .pre .choice .each)
 
 loop-again : tie.Need-loop-again Inv-loop μ-loop
 loop-again c =
-    let t = c .before .before .before .before .before .before .before in
+    let t = turn (c .before) in
     let l = t .before in
     let i = l .before .loop in
-    let a = l .before .before .before .args in
+    let a = start t .args in
     let supply = supplyOf (bidEntries (a .bid)) in
     let tried-next = t .segment-of .ensures in
     let next : i .number ≡ suc (i .number - 1) = omega (arith, l .loop-test .taken) in
-    let leaf-next = rw (more t, tried-next .1) at (c .leaf .ensures) in
+    let with-it = more t ∙ ap (λ (s : Segment). s ∷ chosen (a .c)) (tried-next .1) in
+    let leaf-next = rw with-it at (c .leaf .ensures) in
     let found-next = leaf-next ∙ sym (none-left (a .demand .0) _ _) in
     let again = each-next _ supply _ (i .number) (i .number - 1) next (tried-next .0) _ _ (i .inv .2) found-next in
     (omega (arith, i .inv .0), kept-put (i .inv .1) (t .segment-of .result) _ _, again)

@@ -1,3 +1,4 @@
+-- A choice that does not fit leaves the best so far; the cheapest quantities of one that fits are compared with it.
 use mathlib.Core.Path.{_∙_}
 use borrow.Author.Needs.{needs}
 use mathlib.Core.List.{List}
@@ -27,7 +28,7 @@ fill-requires : tie.Need-fill-requires
 fill-requires c κs =
     let s = c .before .before in
     let tested = c .before .fits2 .ensures (s .args .units .now) (s .args .fixed .now) in
-    (s .pre, passed tested (c .if1 .left))
+    record { sound = s .pre; fitting = passed tested (c .if1 .left) }
 
 returns-2 : tie.Need-returns-2
 returns-2 c =

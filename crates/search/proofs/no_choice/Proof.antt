@@ -1,3 +1,4 @@
+-- A choice for no bidder is sound whatever the columns hold.
 use mathlib.Core.Path.{refl}
 use Rattle.search.proofs.Steps.{sound-nothing}
 use Rattle.search.proofs.no_choice.Statement.{statement}

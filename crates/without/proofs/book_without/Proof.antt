@@ -18,20 +18,20 @@ held : (c : tie.Start Inv-loop μ-loop) → length (c .args .t1 .bids) ≡ 8
 held c = search (length-held, c .good)
 
 loop-holds : tie.Need-loop-holds Inv-loop μ-loop
-loop-holds c = moved-none _ (c .args .t1) (c .pre .1) (held c) (c .pre .0)
+loop-holds c = moved-none _ (c .args .t1) (c .pre .few) (held c) (c .pre .within)
 
 loop-again : tie.Need-loop-again Inv-loop μ-loop
 loop-again c =
     let l = c .before in
     let at = l .before .loop in
     let s = l .before .before in
-    moved-next _ (s .args .t1) (s .pre .1) (held s) (at .left) (at .i) (at .inv) (l .loop-test .taken)
+    moved-next _ (s .args .t1) (s .pre .few) (held s) (at .left) (at .i) (at .inv) (l .loop-test .taken)
 
 returns : tie.Need-returns Inv-loop μ-loop
 returns c =
     let at = c .before .loop in
     let s = c .before .before in
-    moved-all _ (s .args .t1) (s .pre .1) (held s) (at .left) (at .i) (at .inv) (c .loop-test .left)
+    moved-all _ (s .args .t1) (s .pre .few) (held s) (at .left) (at .i) (at .inv) (c .loop-test .left)
 
 pub book-without-spec : {M : Type 1} → statement M
 book-without-spec =

@@ -10,9 +10,10 @@ use Rattle.lists.proofs.Slices.{length-held}
 use Rattle.book.specs.declared.Bid.{Bid}
 use Rattle.book.specs.Entries.{bidEntries, bookEntries}
 use Rattle.book.specs.Room.{roomOfBids}
+use Rattle.book.specs.Accepted.{AcceptedBid}
 use Rattle.book.proofs.Records.{noBid}
 use Rattle.book.proofs.Bids.{entriesFrom, entries-next, entries-done}
-use Rattle.book.proofs.Accepted.{AcceptedBid, few-bids, bid-at}
+use Rattle.book.proofs.Accepted.{few-bids, bid-at}
 use Rattle.bookrules.proofs.figure.room_of_bids.Statement.{statement}
 use Rattle.bookrules.proofs.figure.room_of_bids.Tie as tie
 

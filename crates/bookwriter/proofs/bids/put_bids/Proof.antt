@@ -7,8 +7,9 @@ use lib.ListN.{length, getD, take}
 use Rattle.lists.specs.Joined.{joined}
 use Rattle.lists.proofs.Slices.{length-held}
 use Rattle.book.specs.Entries.{bidEntries}
+use Rattle.book.specs.Accepted.{AcceptedBid}
 use Rattle.book.proofs.Records.{noBid}
-use Rattle.book.proofs.Accepted.{AcceptedBid, few-bids, bid-at}
+use Rattle.book.proofs.Accepted.{few-bids, bid-at}
 use Rattle.printer.specs.Written.{Put}
 use Rattle.printer.proofs.Put.{put-none, put-as, put-next}
 use Rattle.bookwriter.proofs.Sizes.{bidLine, bid-lines}

@@ -1,5 +1,5 @@
 -- A choice of a segment for each bidder so far, the latest bidder first, and the quantities that the search gives it: each bidder gets
--- its start, and the rest goes by unit price, at equal unit prices by book order. Assumes nothing.
+-- its start, and the rest goes by unit price, at equal unit prices by book order.
 use Prim.Native.Nat.{ℕ, _+_, _-_, min}
 use mathlib.Core.Bool.{Bool, cond, _&&_}
 use mathlib.Core.List.{List, [], _∷_, reverse}

@@ -1,11 +1,11 @@
--- The search through all choices: for each bidder in turn its segments from the last to segment 0, and the best of what fits. Assumes nothing.
+-- The search through all choices: for each bidder in turn its segments from the last to segment 0, and the best of what fits.
 use Prim.Native.Nat.{ℕ}
 use mathlib.Core.Bool.{cond}
 use mathlib.Core.List.{List, [], _∷_}
 use mathlib.Core.Option.{Option, none}
 use Rattle.book.specs.declared.Segment.{Segment}
 use Rattle.divisions.specs.Award.{Priced, pick}
-use Rattle.choices.proofs.Choice.{fits, filled}
+use Rattle.choices.specs.Choice.{fits, filled}
 
 -- f for each element, from the last to the first
 unfoldable pub each : {A B : Type 0} → (A → B → B) → List A → B → B
