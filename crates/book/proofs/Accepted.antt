@@ -20,6 +20,7 @@ use Rattle.book.proofs.Records.{noBid}
 use Rattle.book.proofs.InRange.{within-low, within-high}
 use Rattle.book.proofs.Bids.{length-entries, entry-at}
 
+-- The checks in their order. A `_` is found where what its check tells is used; one that is not used has to be written out.
 pub line-accepted : (line before : ℕ) (b : BidEntries) → bidVerdict line before b ≡ Accepted → AcceptedLine before b
 unfolding bidVerdict bidInRange
 line-accepted line before b e =
