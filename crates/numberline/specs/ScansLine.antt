@@ -8,7 +8,7 @@ use Rattle.scanner.specs.declared.Cursor.{Cursor}
 use Rattle.scanner.specs.Scans.{Scans}
 use Rattle.numberline.specs.declared.ParsedNumbers.{ParsedNumbers}
 
--- what these functions ask: a place in the text, and a count of further numbers for which the result has room
+-- what these functions ask: a place in the text, and a count of further numbers for which the result has a field
 pub record LineAsks (t : List ℕ) (from : Cursor) (further : ℕ) : Type 0 where
   pub within : from .at ≤ length t
   pub few : further ≤ 3

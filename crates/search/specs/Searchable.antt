@@ -16,17 +16,17 @@ pub record Searchable (b : BookEntries) : Type 0 where
   pub few : b .count ≤ 8
   pub bids : All AcceptedBid (b .bids)
 
--- what `choose` asks: a choice with room for a bidder, and a segment
+-- what `choose` asks: a choice of fewer than eight bidders, and a segment
 pub record Choosable (c : Choice) (s : Segment) : Type 0 where
   pub choice : Sound c
   pub segment : SoundSegment s
-  pub room : c .count < 8
+  pub not-full : c .count < 8
 
--- what `last_bidder` asks: an accepted bid, and a choice with room for its bidder
+-- what `last_bidder` asks: an accepted bid, and a choice of fewer than eight bidders
 pub record OneLeft (b : Bid) (c : Choice) : Type 0 where
   pub bid : AcceptedBid (bidEntries b)
   pub choice : Sound c
-  pub room : c .count < 8
+  pub not-full : c .count < 8
 
 -- what `search` asks: a choice for the bidders before `at`, and a bidder after it
 pub record SomeLeft (book : Book) (at : ℕ) (c : Choice) : Type 0 where

@@ -157,7 +157,7 @@ search-choose-requires t c κs =
     let s = start t (c .before .before .before) in
     let tried-next = c .segment-of .ensures in
     let sound = sound-segment-at (bidEntries (bid t s (s .args .at))) (this t s) _ (tried-next .0) in
-    record { choice = s .pre .1 .choice; segment = rw (tried-next .1) sound; room = omega (arith, few t s, s .pre .1 .is-at) }
+    record { choice = s .pre .1 .choice; segment = rw (tried-next .1) sound; not-full = omega (arith, few t s, s .pre .1 .is-at) }
 
 search-add-if1 : (t : ℕ) → search-lts.Need-add-if1 (R t) (search-at t) search′.Post search-Inv-loop search-μ-loop
 search-add-if1 t c = omega (arith, few t (turn-start t c))
@@ -169,7 +169,7 @@ search-last-bidder-requires t c κs =
     record {
       bid = accepted t s (s .args .at + 1) (further t s);
       choice = c .before .choose .ensures .1 .1;
-      room = omega (arith, few t s, s .pre .1 .is-at);
+      not-full = omega (arith, few t s, s .pre .1 .is-at);
     }
 
 search-loop-less : (t : ℕ) → search-lts.Need-loop-less (R t) (search-at t) search′.Post search-Inv-loop search-μ-loop

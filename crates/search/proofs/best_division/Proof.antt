@@ -72,7 +72,7 @@ last-bidder-requires c κs =
     record {
       bid = accepted-at (b .bids) (b .count) (held s) (s .pre .bids) 0 (omega (arith, c .before .if2 .taken));
       choice = empty .1;
-      room = omega (arith, empty .0);
+      not-full = omega (arith, empty .0);
     }
 
 returns-2 : tie.Need-returns-2

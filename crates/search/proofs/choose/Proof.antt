@@ -22,9 +22,9 @@ returns c =
     let a = s .args in
     let at = a .c .count in
     let sound = s .pre .segment in
-    let room = s .pre .room in
-    let more = rows-put (a .c) at (a .s) _ (at + 1) (held s) room (fixed-kept (a .s) sound) in
-    (refl, (more, sound-put (put (a .c) at (a .s) _ (at + 1)) at (a .s) _ room more sound (s .pre .choice .each)))
+    let not-full = s .pre .not-full in
+    let more = rows-put (a .c) at (a .s) _ (at + 1) (held s) not-full (fixed-kept (a .s) sound) in
+    (refl, (more, sound-put (put (a .c) at (a .s) _ (at + 1)) at (a .s) _ not-full more sound (s .pre .choice .each)))
 
 pub choose-spec : {M : Type 1} → statement M
 choose-spec =

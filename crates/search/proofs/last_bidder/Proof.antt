@@ -66,7 +66,7 @@ more : (c : tie.After-segment-of Inv-loop μ-loop)
 more c =
     let s = start c in
     let t = c .segment-of .result in
-    kept-rows (c .before .before .loop .inv .1) t _ (c .before .before .loop .full .count) (s .pre .room) (fixed-kept t (sound c))
+    kept-rows (c .before .before .loop .inv .1) t _ (c .before .before .loop .full .count) (s .pre .not-full) (fixed-kept t (sound c))
 
 loop-holds : tie.Need-loop-holds Inv-loop μ-loop
 loop-holds c =
@@ -81,7 +81,7 @@ leaf-requires : tie.Need-leaf-requires Inv-loop μ-loop
 leaf-requires c κs =
     let t = turn c in
     let s = start t in
-    sound-put (with t) _ (t .segment-of .result) _ (s .pre .room) (more t) (sound t) (s .pre .choice .each)
+    sound-put (with t) _ (t .segment-of .result) _ (s .pre .not-full) (more t) (sound t) (s .pre .choice .each)
 
 loop-again : tie.Need-loop-again Inv-loop μ-loop
 loop-again c =
