@@ -9,12 +9,12 @@ use borrow.Author.Needs.{needs}
 use Rattle.booklines.proofs.bid.Statement.{statement}
 use Rattle.booklines.proofs.bid.Tie as tie
 
--- where the bidder was read, from where the segments were; and where these were, from the end
-abbrev bidder : tie.After-segments → tie.After-bidder
-bidder c = c .before .before .before
+-- Earlier places of the code: where the bidder was read, from where the segments were; this, from the end.
+abbrev bidder-read : tie.After-segments → tie.After-bidder
+bidder-read c = c .before .before .before
 
-abbrev segments : tie.After-word → tie.After-segments
-segments c = c .before .before .before .before
+abbrev segments-read : tie.After-word → tie.After-segments
+segments-read c = c .before .before .before .before
 
 segments-requires : tie.Need-segments-requires
 segments-requires c κs =
@@ -23,8 +23,8 @@ segments-requires c κs =
 
 returns : tie.Need-returns
 returns c =
-    let s = segments c .segments in
-    let begun = bidder (segments c) in
+    let s = segments-read c .segments in
+    let begun = bidder-read (segments-read c) in
     let h = begun .bidder in
     let a = begun .before .before .args in
     let xs = s .ensures .0 .0 in (

@@ -23,7 +23,8 @@ Inv-loop text book₀ next₀ book next =
 abbrev μ-loop : tie.MeasureT-loop
 μ-loop text book₀ next₀ book next = left 40 bid bid-laws bid-open added bidCount text (next .at) (next .stopped)
 
--- the beginning, from where the first bid was read; that place, from where it was added; and this, from the loop
+-- Earlier places of the code: the beginning, from where the first bid was read; this, from where it was added; that, from the loop; and
+-- where a further one was found to begin, from where it was read.
 abbrev start : tie.After-bid Inv-loop μ-loop → tie.Start Inv-loop μ-loop
 start c = c .before .before
 
@@ -33,7 +34,6 @@ first c = c .before .before
 abbrev begun : tie.At-loop Inv-loop μ-loop → tie.After-with-bid Inv-loop μ-loop
 begun c = c .before .before
 
--- where a further bid was found to begin, from where it was read
 abbrev tested : tie.After-bid2 Inv-loop μ-loop → tie.After-begins Inv-loop μ-loop
 tested c = c .before .before
 

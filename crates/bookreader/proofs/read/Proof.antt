@@ -12,7 +12,7 @@ use borrow.Author.Needs.{needs}
 use Rattle.bookreader.proofs.read.Statement.{statement}
 use Rattle.bookreader.proofs.read.Tie as tie
 
--- of a text that was parsed: the text, the book's entries, and where parsing stands
+-- Of a text that was parsed: the text, the book's entries, and where parsing stands.
 abbrev text : tie.After-book → List ℕ
 text c = c .before .before .before .args .text .now
 
@@ -25,7 +25,7 @@ place c = c .book .result .next .at
 short : (c : tie.After-book) → length (text c) ≤ 4096
 short c = c .before .if1 .left
 
--- where it was parsed, from where its end was looked at; and this, from where the record was checked
+-- Earlier places of the code: where it was parsed, from where its end was looked at; this, from where the record was checked.
 abbrev parsed : tie.After-struct-known → tie.After-book
 parsed c = c .before .before .before
 

@@ -7,14 +7,14 @@ use borrow.Author.Needs.{needs}
 use Rattle.numberline.proofs.line.Statement.{statement}
 use Rattle.numberline.proofs.line.Tie as tie
 
--- the beginning, from where the first word was read
-abbrev start : tie.After-word → tie.Start
-start c = c .before .before .before .before
+-- The beginning, from where the first word was read.
+abbrev entered : tie.After-word → tie.Start
+entered c = c .before .before .before .before
 
 returns : tie.Need-returns
 returns c =
     let begun = c .before .before .before in
-    let a = start begun .args in
+    let a = entered begun .args in
     let w = begun .word in
     let n = c .before .before .spaced in (
       reads-framed (a .start .now) (numbers-laws (a .further)) (a .close .now) (a .text .now) (a .from .at) (a .from .stopped)

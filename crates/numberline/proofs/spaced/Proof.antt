@@ -14,7 +14,7 @@ Inv-loop text further values₀ next₀ i₀ t10 values next i = Several text (g
 abbrev μ-loop : tie.MeasureT-loop
 μ-loop text further values₀ next₀ i₀ t10 values next i = further - i
 
--- the beginning, from where the first number was read; and the loop's turn, from where a space was read
+-- Earlier places of the code: the beginning, from where the first number was read; the loop's turn, from where a space was read.
 abbrev start : tie.After-number Inv-loop μ-loop → tie.Start Inv-loop μ-loop
 start c = c .before .before
 

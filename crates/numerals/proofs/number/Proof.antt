@@ -19,7 +19,8 @@ Inv-loop text least at value₀ i₀ value i = Digits least text at value i
 abbrev μ-loop : tie.MeasureT-loop
 μ-loop text least at value₀ i₀ value i = length text - i
 
--- the beginning, from where the first byte was looked at; that place, from the loop; and the loop, from where a further byte was looked at
+-- Earlier places of the code: the beginning, from where the first byte was looked at; this, from the loop; the loop, from where a further
+-- byte was looked at.
 abbrev start : tie.After-is-first-at Inv-loop μ-loop → tie.Start Inv-loop μ-loop
 start c = c .before .before .before
 

@@ -10,7 +10,7 @@ use borrow.Author.Needs.{needs}
 use Rattle.numerals.proofs.signed.Statement.{statement}
 use Rattle.numerals.proofs.signed.Tie as tie
 
--- the beginning, from where the next byte was looked at
+-- The beginning, from where the next byte was looked at.
 abbrev start : tie.After-begins → tie.Start
 start c = c .before .before
 

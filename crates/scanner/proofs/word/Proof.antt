@@ -17,7 +17,7 @@ Inv-loop text w at i₀ i = Along text w at i
 abbrev μ-loop : tie.MeasureT-loop
 μ-loop text w at i₀ i = length w - i
 
--- the beginning, from where parsing had not stopped before; and the loop, from where a byte was compared
+-- Earlier places of the code: the beginning, from where parsing goes on; the loop, from where a byte was compared.
 abbrev start : tie.Else1 Inv-loop μ-loop → tie.Start Inv-loop μ-loop
 start c = c .before .before .before
 

@@ -13,23 +13,23 @@ use borrow.Author.Needs.{needs}
 use Rattle.booklines.proofs.segments.segment.Statement.{statement}
 use Rattle.booklines.proofs.segments.segment.Tie as tie
 
--- the beginning, from where the line of numbers was read; that place, from where the fixed price was; and this, from the end
+-- Earlier places of the code: the beginning, from where the numbers were read; this, from where the fixed price was; and that, from the end.
 abbrev start : tie.After-line → tie.Start
 start c = c .before .before .before .before
 
-abbrev line : tie.After-signed → tie.After-line
-line c = c .before .before
+abbrev numbers-read : tie.After-signed → tie.After-line
+numbers-read c = c .before .before
 
-abbrev price : tie.After-struct-told → tie.After-signed
-price c = c .before .before .before .before
+abbrev price-read : tie.After-struct-told → tie.After-signed
+price-read c = c .before .before .before .before
 
 returns : tie.Need-returns
 returns c =
-    let read = line (price c) in
+    let read = numbers-read (price-read c) in
     let a = start read .args in
     let l = read .line in
     let x = numbersIn 2 (valuesOf (l .result)) in
-    let fixed = price c .signed in
+    let fixed = price-read c .signed in
     let close = c .before .word in
     let fits : SFits w64 (fixed .result .value) = search needs in
     let kept = toZ-ofZ w64 (fixed .result .value) fits in (

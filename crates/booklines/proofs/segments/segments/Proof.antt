@@ -17,7 +17,8 @@ Inv-loop text bid₀ next₀ bid next =
 abbrev μ-loop : tie.MeasureT-loop
 μ-loop text bid₀ next₀ bid next = left 32 segment segment-laws segment-space withSegment segmentCount text (next .at) (next .stopped)
 
--- the beginning, from where the first segment was read; that place, from where it was added; and this, from the loop
+-- Earlier places of the code: the beginning, from where the first segment was read; this, from where it was added; that, from the loop; and
+-- where a further one was found to begin, from where it was read.
 abbrev start : tie.After-segment Inv-loop μ-loop → tie.Start Inv-loop μ-loop
 start c = c .before .before
 
@@ -27,7 +28,6 @@ first c = c .before .before
 abbrev begun : tie.At-loop Inv-loop μ-loop → tie.After-with-segment Inv-loop μ-loop
 begun c = c .before .before
 
--- where a further segment was found to begin, from where it was read
 abbrev tested : tie.After-segment2 Inv-loop μ-loop → tie.After-begins Inv-loop μ-loop
 tested c = c .before .before
 
