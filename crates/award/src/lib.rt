@@ -1,11 +1,8 @@
 // An award as a record: what each bidder sells, at what price, and what the mint samples.
 ghost use mathlib.Core.Path.{_≡_};
-ghost use mathlib.Core.Bool.{true};
-ghost use Prim.Native.Nat.{_≤_};
-ghost use Rattle.lists.specs.Every.{every};
 ghost use Rattle.book.specs.Entries.{bidEntries};
-ghost use Rattle.book.specs.Rules.{segmentInRange};
 ghost use Rattle.supply.specs.Supply.{supplyOf, priceAt};
+ghost use Rattle.supply.specs.Asked.{Priceable};
 ghost use Rattle.award.specs.Award.{noRow, noAward, rowOf};
 use book::Bid;
 use money::Blanks;
@@ -37,7 +34,7 @@ pub struct Award {
     pub rows: [Row; 8],
 }
 
-// Zeros and `Nothing`. It is pub, as `no_award` and `row_of` are, for clearing.
+// Zeros and `Nothing`.
 pub fn no_row() -> Row
     ensures { λ r. ⌜ r ≡ noRow ⌝ }
 {
@@ -66,8 +63,7 @@ pub fn no_award() -> Award
 
 // The price of a quantity that the bid offers; 0 where it does not offer it, which no award has.
 fn price_of(bid: Bid, quantity: Blanks) -> Cents
-    requires { ⌜ bid .count ≤ 6 ⌝ }
-    requires { ⌜ every segmentInRange (bidEntries bid .segments) ≡ true ⌝ }
+    requires { ⌜ Priceable bid ⌝ }
     ensures { λ r. ⌜ r .0 ≡ priceAt (supplyOf (bidEntries bid)) (quantity .0) ⌝ }
 {
     let offer = supply::price_at(bid, quantity);
@@ -79,8 +75,7 @@ fn price_of(bid: Bid, quantity: Blanks) -> Cents
 
 // The row of a bid of an accepted book.
 pub fn row_of(bid: Bid, quantity: Blanks, without: Total) -> Row
-    requires { ⌜ bid .count ≤ 6 ⌝ }
-    requires { ⌜ every segmentInRange (bidEntries bid .segments) ≡ true ⌝ }
+    requires { ⌜ Priceable bid ⌝ }
     ensures { λ r. ⌜ r ≡ rowOf (bidEntries bid) (quantity .0) without ⌝ }
 {
     let segment = supply::segment_number(bid, quantity);

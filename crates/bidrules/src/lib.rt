@@ -8,7 +8,7 @@ use refusal::Verdict;
 use segmentrules::Test;
 
 // The first rule that a bid breaks, if it breaks one. `before` is the bidder of the bid before, or 0
-// for the first. It is pub for the check of a book.
+// for the first.
 pub fn check_bid(bid: Bid, line: u64, before: u64) -> Verdict
     ensures { λ r. ⌜ r ≡ bidVerdict line before (bidEntries bid) ⌝ }
 {

@@ -1,5 +1,4 @@
-// Records as a reader fills them: all zeros at first, and then one entry after the other. The functions are pub for the readers of
-// texts.
+// Records as a reader fills them: all zeros at first, and then one entry after the other.
 ghost use mathlib.Core.Path.{_≡_};
 ghost use Prim.Native.Nat.{_<_};
 ghost use Rattle.booktext.specs.Record.{emptySegment, emptyBid, emptyBook};

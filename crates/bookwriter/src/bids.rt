@@ -8,6 +8,7 @@ ghost use Rattle.booktext.specs.BookText.{segmentText, bidText, bookText};
 ghost use Rattle.printer.specs.Written.{Put};
 ghost use Rattle.lines.specs.Line.{partText};
 ghost use Rattle.refusal.specs.declared.Verdict.the-variants.{Accepted};
+ghost use Rattle.bookwriter.specs.Asked.{BidAt, BidsAt};
 use book::Bid;
 use book::Book;
 use book::Segment;
@@ -31,8 +32,7 @@ fn segment_line(s: Segment) -> [Part; 8]
 }
 
 fn put_segments(out: &mut [u8], at: usize, bid: Bid) -> usize
-    requires { ⌜ bid .count ≤ 6 ⌝ }
-    requires { ⌜ at ≤ 1000000 ⌝ }
+    requires { ⌜ BidAt 1000000 bid at ⌝ }
     ensures { λ r. ⌜ Put (now (out .entry)) at (joined segmentText (bidEntries bid .segments)) (now (out .exit)) r ⌝ }
     ensures { λ r. ⌜ r ≤ at + 24000 ⌝ }
 {
@@ -48,8 +48,7 @@ fn put_segments(out: &mut [u8], at: usize, bid: Bid) -> usize
 }
 
 fn put_bid(out: &mut [u8], at: usize, bid: Bid) -> usize
-    requires { ⌜ bid .count ≤ 6 ⌝ }
-    requires { ⌜ at ≤ 900000 ⌝ }
+    requires { ⌜ BidAt 900000 bid at ⌝ }
     ensures { λ r. ⌜ Put (now (out .entry)) at (bidText (bidEntries bid)) (now (out .exit)) r ⌝ }
     ensures { λ r. ⌜ r ≤ at + 25000 ⌝ }
 {
@@ -59,8 +58,7 @@ fn put_bid(out: &mut [u8], at: usize, bid: Bid) -> usize
 }
 
 fn put_bids(out: &mut [u8], at: usize, book: Book) -> usize
-    requires { ⌜ bookVerdict (bookEntries book) ≡ Accepted ⌝ }
-    requires { ⌜ at ≤ 1000 ⌝ }
+    requires { ⌜ BidsAt book at ⌝ }
     ensures { λ r. ⌜ Put (now (out .entry)) at (joined bidText (bookEntries book .bids)) (now (out .exit)) r ⌝ }
 {
     let mut next = at;

@@ -3,7 +3,6 @@ ghost use mathlib.Core.Path.{_≡_};
 ghost use lib.ListN.{length};
 ghost use Rattle.bookwriter.specs.Writing.{writeOf, outputOf};
 
-// The lines of the text. The modules are private: what is pub in them serves this crate alone.
 mod bids;
 
 use book::Book;

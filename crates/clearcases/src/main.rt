@@ -1,8 +1,7 @@
 // Clears small books a second way, by listing all splits, and prints how often the two ways agree, in every column of every row. What
 // it must print stands in stdout.
 
-// Small books and their records; all splits of a book; the comparison. The modules are private: what is pub in them serves this
-// program alone.
+// Small books and their records; all splits of a book; the comparison.
 mod agree;
 mod small_books;
 mod splits;

@@ -1,11 +1,11 @@
-// Words, numbers and prices put into a lent output. The functions are pub for what puts lines together. Each answers the place after what
-// it puts; where that lies past the output's end, nothing is stored of it. So a text is measured by putting it into an output that is
-// too short, and no second code counts bytes. A place is bounded so that no sum wraps.
+// Words, numbers and prices put into a lent output. Each function answers the place after what it puts; where that lies past the output's
+// end, nothing is stored of it. So a text is measured by putting it into an output that is too short, and no second code counts bytes. A
+// place is bounded so that no sum wraps.
 ghost use mathlib.Core.Path.{_≡_};
 ghost use Prim.Native.Nat.{_+_, _^_, _≤_, _<_};
 ghost use lib.ListN.{length};
 ghost use Rattle.forms.specs.Digits.{digits};
-ghost use Rattle.printer.specs.Written.{Wrote, placed, Put};
+ghost use Rattle.printer.specs.Written.{Wrote, placed, Put, Placeable};
 
 mod cents;
 
@@ -48,8 +48,7 @@ fn digit(d: u64) -> u8
 
 // The bytes of w, from `at` on, where they fit. Answers the place after them all the same.
 pub fn put_word(out: &mut [u8], at: usize, w: &[u8]) -> usize
-    requires { ⌜ at < 2 ^ 63 ⌝ }
-    requires { ⌜ length (now w) ≤ 32 ⌝ }
+    requires { ⌜ Placeable at (now w) ⌝ }
     ensures { λ r. ⌜ r ≡ at + length (now (w .entry)) ⌝ }
     ensures { λ r. ⌜ now (out .exit) ≡ placed (now (out .entry)) at (now (w .entry)) ⌝ }
     ensures { λ r. ⌜ r ≤ at + 32 ⌝ }

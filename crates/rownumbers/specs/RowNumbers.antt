@@ -1,9 +1,9 @@
 -- The rows of an award as numbers, for C. No amount of an award is negative (endtoend/proofs/Fits.antt: `text-row-up-to`), so that no
 -- sign is lost.
-use Prim.Native.Nat.{ℕ}
+use Prim.Native.Nat.{ℕ, _*_, _≤_}
 use mathlib.Core.List.{List, [], _∷_}
 use lib.IntN.{natAbs}
-use lib.ListN.{take}
+use lib.ListN.{length, take}
 use Rattle.lists.specs.Joined.{joined}
 use Rattle.award.specs.declared.Total.{Total}
 use Rattle.award.specs.declared.Total.the-variants.{Amount, Nothing}
@@ -34,3 +34,7 @@ rowNumbers row =
 -- the rows of all bids, in book order
 unfoldable pub awardNumbers : Award → List ℕ
 awardNumbers award = joined rowNumbers (take (award .count) (award .rows))
+
+-- what `put_rows` asks: the record holds each row that it counts, and the list has room for the numbers of all
+abbrev pub RowsFit : Award → List ℕ → Type 0
+RowsFit award rows = (award .count ≤ 8) × (7 * award .count ≤ length rows)

@@ -1,9 +1,9 @@
 // The rows of an award as numbers, put into a lent list: seven for each.
 ghost use mathlib.Core.Path.{_≡_};
-ghost use Prim.Native.Nat.{_+_, _*_, _≤_};
+ghost use Prim.Native.Nat.{_+_, _≤_};
 ghost use lib.ListN.{length};
 ghost use Rattle.printer.specs.Written.{written};
-ghost use Rattle.rownumbers.specs.RowNumbers.{covered, amount, rowNumbers, awardNumbers};
+ghost use Rattle.rownumbers.specs.RowNumbers.{covered, amount, rowNumbers, awardNumbers, RowsFit};
 use award::Award;
 use award::Row;
 use award::Total;
@@ -54,10 +54,9 @@ fn put(rows: &mut [u64], at: usize, numbers: &[u64])
     }
 }
 
-// The rows of an award, from the list's beginning on. It is pub for `awardnumbers`, which has measured the list.
+// The rows of an award, from the list's beginning on.
 pub fn put_rows(rows: &mut [u64], award: Award)
-    requires { ⌜ award .count ≤ 8 ⌝ }
-    requires { ⌜ 7 * award .count ≤ length (now rows) ⌝ }
+    requires { ⌜ RowsFit award (now rows) ⌝ }
     ensures { λ _. ⌜ now (rows .exit) ≡ written (now (rows .entry)) 0 (awardNumbers award) ⌝ }
 {
     let mut i: usize = 0;

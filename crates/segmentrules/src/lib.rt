@@ -1,4 +1,4 @@
-// The rules for the segments of a bid: 5, 7 and 8 of document 01. The functions are pub for the check of a bid.
+// The rules for the segments of a bid: 5, 7 and 8 of document 01.
 ghost use mathlib.Core.Path.{_≡_};
 ghost use Rattle.book.specs.Rules.{within};
 
@@ -14,7 +14,7 @@ pub enum Test {
     StartNotNegative,
 }
 
-// From low to high, both counted. It is pub for the check of a bid and of a book, whose counts and numbers have ranges too.
+// From low to high, both counted.
 pub fn within(low: u64, high: u64, n: u64) -> bool
     ensures { λ r. ⌜ r ≡ within low high n ⌝ }
 {

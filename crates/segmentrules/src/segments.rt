@@ -1,11 +1,10 @@
 // Rules 5 and 8, which look at each segment by itself.
 ghost use mathlib.Core.Path.{_≡_};
 ghost use mathlib.Core.Bool.{true};
-ghost use Prim.Native.Nat.{_≤_};
 ghost use Rattle.lists.specs.Every.{every};
 ghost use Rattle.book.specs.Entries.{bidEntries};
 ghost use Rattle.book.specs.Rules.{segmentInRange, startNotNegative};
-ghost use Rattle.segmentrules.specs.Tests.{testOf, askedOf};
+ghost use Rattle.segmentrules.specs.Tests.{testOf, askedOf, Testable};
 use crate::Test;
 use book::Bid;
 use book::Segment;
@@ -54,11 +53,9 @@ fn passes(test: Test, s: Segment) -> bool
     }
 }
 
-// Whether every segment passes, of a bid that keeps rule 4, so that the record holds each segment that
-// it counts.
+// Whether every segment of a bid passes.
 pub fn all_pass(test: Test, bid: Bid) -> bool
-    requires { ⌜ bid .count ≤ 6 ⌝ }
-    requires { ⌜ every (askedOf test) (bidEntries bid .segments) ≡ true ⌝ }
+    requires { ⌜ Testable test bid ⌝ }
     ensures { λ r. ⌜ r ≡ every (testOf test) (bidEntries bid .segments) ⌝ }
 {
     let mut i: usize = 0;

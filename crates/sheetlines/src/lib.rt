@@ -1,4 +1,4 @@
-// The lines of an award sheet, and the line of a refusal, as data: which parts each has. The functions are pub for the writer of the sheet.
+// The lines of an award sheet, and the line of a refusal, as data: which parts each has.
 ghost use mathlib.Core.Path.{_≡_};
 ghost use mathlib.Core.List.{_++_};
 ghost use Rattle.lists.specs.Joined.{joined};

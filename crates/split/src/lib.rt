@@ -32,7 +32,7 @@ pub fn price_split(book: Book, quantities: &[u64]) -> SplitPrice
     price_accepted(book, quantities)
 }
 
-// Price 0 and no beside a refusal. It is pub for the splits of texts.
+// Price 0 and no beside a refusal.
 pub fn refused(verdict: Verdict) -> SplitPrice
     ensures { λ r. ⌜ r ≡ refusedSplit verdict ⌝ }
 {

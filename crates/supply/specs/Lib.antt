@@ -1,3 +1,4 @@
 pub mod Supply
 pub mod Places
 pub mod Allocation
+pub mod Asked

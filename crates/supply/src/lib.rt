@@ -1,13 +1,11 @@
 // A bid's supply function: which quantities it offers, and at what price.
 ghost use mathlib.Core.Path.{_≡_};
-ghost use mathlib.Core.Bool.{true};
 ghost use Prim.Native.Nat.{_≤_, _<_};
 ghost use lib.ListN.{length, getD};
-ghost use Rattle.lists.specs.Every.{every};
 ghost use Rattle.book.specs.Entries.{bidEntries};
-ghost use Rattle.book.specs.Rules.{segmentInRange};
 ghost use Rattle.supply.specs.Supply.{on, segment0, supplyOf, offerOf, segmentNumber};
 ghost use Rattle.supply.specs.Places.{FoundAt};
+ghost use Rattle.supply.specs.Asked.{HasSegment, Priceable};
 use book::Bid;
 use book::Segment;
 use money::Blanks;
@@ -36,12 +34,9 @@ fn on_segment(s: Segment, quantity: Blanks) -> bool
     quantity.0 <= s.end.0
 }
 
-// The segment of a bid's supply function with this number; segment 0 is nothing at price 0. The record
-// holds each segment that the bid counts, so there is one. It is pub for the search, which goes
-// through them.
+// The segment of a bid's supply function with this number; segment 0 is nothing at price 0.
 pub fn segment_of(bid: Bid, number: usize) -> Segment
-    requires { ⌜ bid .count ≤ 6 ⌝ }
-    requires { ⌜ number ≤ bid .count ⌝ }
+    requires { ⌜ HasSegment bid number ⌝ }
     ensures { λ r. ⌜ number < length (supplyOf (bidEntries bid)) ⌝ }
     ensures { λ r. ⌜ r ≡ getD (supplyOf (bidEntries bid)) number segment0 ⌝ }
 {
@@ -72,12 +67,9 @@ fn find(bid: Bid, quantity: Blanks) -> Place
     Place::Nowhere
 }
 
-// The price of a quantity by a bid of an accepted book. It is pub for the crates that price splits
-// of such a book. There the record holds each segment that the bid counts, and each is in range, so
-// that every price fits.
+// The price of a quantity by a bid of an accepted book.
 pub fn price_at(bid: Bid, quantity: Blanks) -> Offer
-    requires { ⌜ bid .count ≤ 6 ⌝ }
-    requires { ⌜ every segmentInRange (bidEntries bid .segments) ≡ true ⌝ }
+    requires { ⌜ Priceable bid ⌝ }
     ensures { λ r. ⌜ r ≡ offerOf (supplyOf (bidEntries bid)) (quantity .0) ⌝ }
 {
     let place = find(bid, quantity);
@@ -90,7 +82,7 @@ pub fn price_at(bid: Bid, quantity: Blanks) -> Offer
     Offer::Price(money::price(unit, quantity, fixed))
 }
 
-// The number of the segment that a quantity is on. It is pub for the rows of an award.
+// The number of the segment that a quantity is on.
 pub fn segment_number(bid: Bid, quantity: Blanks) -> u64
     requires { ⌜ bid .count ≤ 6 ⌝ }
     ensures { λ r. ⌜ r ≡ segmentNumber (supplyOf (bidEntries bid)) (quantity .0) ⌝ }

@@ -1,4 +1,4 @@
-// The fixed byte strings of the texts that are written, put into a lent output. The function is pub for what puts lines together.
+// The fixed byte strings of the texts that are written, put into a lent output.
 ghost use mathlib.Core.Path.{_≡_};
 ghost use Prim.Native.Nat.{_+_, _^_, _≤_, _<_};
 ghost use lib.ListN.{length};

@@ -1,4 +1,4 @@
--- Its row is the blank one, and all else is zero.
+-- Each row is what `no_row` gives, and all else is zero, as in the definition.
 use mathlib.Core.Path.{ap}
 use borrow.Author.Needs.{needs}
 use lib.IntN.{pos}

@@ -1,4 +1,4 @@
--- The price is that of the offer, and 0 where there is none, as the definition has it.
+-- The offer is the price where the quantity is offered; where it is not, the definition has 0 too.
 use mathlib.Core.Path.{sym, _∙_}
 use borrow.Author.Needs.{needs}
 use Rattle.supply.proofs.Offers.{offered}

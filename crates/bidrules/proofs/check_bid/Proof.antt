@@ -1,10 +1,11 @@
--- The tests stand in the order of the rules: each that is passed leaves the next to decide.
+-- The tests stand in the order of the rules, so each that is passed leaves the next to decide.
 use Prim.Native.Nat.{_≤_}
 use mathlib.Core.Bool.{true}
 use mathlib.Core.List.{List, [], _∷_}
 use mathlib.Core.Path.{_≡_, refl}
 use borrow.Author.Needs.{needs}
 use borrow.Author.Tests.{lt-ltb, le-ltb}
+use lib.Dec.{ltb}
 use Rattle.lists.specs.Every.{every}
 use Rattle.lists.proofs.Tests.{passed, failed}
 use Rattle.book.specs.declared.Segment.{Segment}
@@ -16,26 +17,40 @@ use Rattle.segmentrules.specs.Tests.{askedOf}
 use Rattle.bidrules.proofs.check_bid.Statement.{statement}
 use Rattle.bidrules.proofs.check_bid.Tie as tie
 
+-- the states past the tests: the count is in its range, then all numbers are, then the bidder is above the one before
+abbrev start : tie.Else1 → tie.Start
+start c = c .before .before
+
+abbrev counted : tie.Else3 → tie.Else1
+counted c = c .before .before .before .before
+
+abbrev ranged : tie.Else4 → tie.Else3
+ranged c = c .before .before
+
+abbrev above : tie.Else5 → tie.Else4
+above c = c .before .before
+
 -- what each test shows
-count-kept : (c : tie.Else1) → within 1 6 (c .before .before .args .bid .count) ≡ true
+count-kept : (c : tie.Else1) → within 1 6 (start c .args .bid .count) ≡ true
 count-kept c = passed (c .before .within .ensures) (c .if1 .left)
 
-few : (c : tie.Else1) → c .before .before .args .bid .count ≤ 6
-few c = within-high 1 6 (c .before .before .args .bid .count) (count-kept c)
+few : (c : tie.Else1) → start c .args .bid .count ≤ 6
+few c = within-high 1 6 (start c .args .bid .count) (count-kept c)
 
-bidder-kept : (c : tie.Else2) → within 1 9999 (c .before .before .before .before .args .bid .bidder) ≡ true
+bidder-kept : (c : tie.Else2) → within 1 9999 (start (c .before .before) .args .bid .bidder) ≡ true
 bidder-kept c = passed (c .before .within2 .ensures) (c .if2 .left)
 
-segments-kept : (c : tie.Else3)
-    → every segmentInRange (bidEntries (c .before .before .before .before .before .before .args .bid) .segments) ≡ true
+segments-kept : (c : tie.Else3) → every segmentInRange (bidEntries (start (counted c) .args .bid) .segments) ≡ true
 segments-kept c = passed (c .before .all-pass .ensures) (c .if3 .left)
 
-range-kept : (c : tie.Else3) → bidInRange (bidEntries (c .before .before .before .before .before .before .args .bid)) ≡ true
+range-kept : (c : tie.Else3) → bidInRange (bidEntries (start (counted c) .args .bid)) ≡ true
 unfolding bidInRange
 range-kept c = rw (bidder-kept (c .before .before), segments-kept c)
 
-rise-kept : (c : tie.Else5)
-    → segmentsRise 0 (bidEntries (c .before .before .before .before .before .before .before .before .before .before .args .bid) .segments) ≡ true
+order-kept : (c : tie.Else4) → let a = start (counted (ranged c)) .args in ltb (a .before) (a .bid .bidder) ≡ true
+order-kept c = lt-ltb _ _ (c .if4 .left)
+
+rise-kept : (c : tie.Else5) → segmentsRise 0 (bidEntries (start (counted (ranged (above c))) .args .bid) .segments) ≡ true
 rise-kept c = passed (c .before .segments-rise .ensures) (c .if5 .left)
 
 -- rule 5 asks nothing of a segment before
@@ -53,53 +68,45 @@ unfolding bidVerdict bidInRange
 returns-2 c = rw (count-kept (c .before .before), failed (c .before .within2 .ensures) (c .if2 .taken))
 
 all-pass-requires : tie.Need-all-pass-requires
-all-pass-requires c κs = (few (c .before .before), nothing-asked _)
+all-pass-requires c κs = record { held = few (c .before .before); asked = nothing-asked _ }
 
 returns-3 : tie.Need-returns-3
 unfolding bidVerdict bidInRange
 returns-3 c =
-    let e2 = c .before .before in
-    rw (count-kept (e2 .before .before), bidder-kept e2, failed (c .before .all-pass .ensures) (c .if3 .taken))
+    let e = c .before .before in
+    rw (count-kept (e .before .before), bidder-kept e, failed (c .before .all-pass .ensures) (c .if3 .taken))
 
 returns-4 : tie.Need-returns-4
 unfolding bidVerdict
 returns-4 c =
-    let e3 = c .before .before in
-    rw (count-kept (e3 .before .before .before .before), range-kept e3, le-ltb _ _ (c .if4 .taken))
+    let r = c .before .before in
+    rw (count-kept (counted r), range-kept r, le-ltb _ _ (c .if4 .taken))
 
 returns-5 : tie.Need-returns-5
 unfolding bidVerdict
 returns-5 c =
-    let e4 = c .before .before in
-    let e3 = e4 .before .before in
-    let above = lt-ltb _ _ (e4 .if4 .left) in
-    let fails = failed (c .before .segments-rise .ensures) (c .if5 .taken) in
-    rw (count-kept (e3 .before .before .before .before), range-kept e3, above, fails)
+    let a = c .before .before in
+    let r = ranged a in
+    rw (count-kept (counted r), range-kept r, order-kept a, failed (c .before .segments-rise .ensures) (c .if5 .taken))
 
 all-pass-requires-2 : tie.Need-all-pass-requires-2
-all-pass-requires-2 c κs =
-    let e3 = c .before .before .before .before in
-    (few (e3 .before .before .before .before), segments-kept e3)
+all-pass-requires-2 c κs = let r = ranged (above c) in record { held = few (counted r); asked = segments-kept r }
 
 returns-6 : tie.Need-returns-6
 unfolding bidVerdict
 returns-6 c =
-    let e5 = c .before .before in
-    let e4 = e5 .before .before in
-    let e3 = e4 .before .before in
-    let above = lt-ltb _ _ (e4 .if4 .left) in
+    let rises = c .before .before in
+    let r = ranged (above rises) in
     let fails = failed (c .before .all-pass2 .ensures) (c .if6 .taken) in
-    rw (count-kept (e3 .before .before .before .before), range-kept e3, above, rise-kept e5, fails)
+    rw (count-kept (counted r), range-kept r, order-kept (above rises), rise-kept rises, fails)
 
 returns-7 : tie.Need-returns-7
 unfolding bidVerdict
 returns-7 c =
-    let e5 = c .before .before in
-    let e4 = e5 .before .before in
-    let e3 = e4 .before .before in
-    let above = lt-ltb _ _ (e4 .if4 .left) in
+    let rises = c .before .before in
+    let r = ranged (above rises) in
     let passes = passed (c .before .all-pass2 .ensures) (c .if6 .left) in
-    rw (count-kept (e3 .before .before .before .before), range-kept e3, above, rise-kept e5, passes)
+    rw (count-kept (counted r), range-kept r, order-kept (above rises), rise-kept rises, passes)
 
 pub check-bid-spec : {M : Type 1} → statement M
 check-bid-spec =
@@ -112,7 +119,7 @@ check-bid-spec =
     all-pass-requires
     returns-3
     returns-4
-    (λ c κs. few (c .before .before .before .before .before .before))
+    (λ c κs. few (counted (ranged c)))
     returns-5
     all-pass-requires-2
     returns-6

@@ -1,4 +1,4 @@
--- Beside a refusal of the text stand zeros and no; else the price of the split of its book.
+-- The reading's verdict decides, as in the definition: zeros and no beside a refusal, else the price of the split of the book read.
 use Prim.Native.Nat.{ℕ}
 use mathlib.Core.List.{List}
 use mathlib.Core.Path.{_∙_}
@@ -18,20 +18,22 @@ accepted quantities read = splitOf (bookEntries (read .book)) quantities
 abbrev refused : BookRead → SplitPrice
 refused read = refusedSplit (read .verdict)
 
+-- the quantities lent at the call, from where the text is read
+abbrev lent : tie.After-read → List ℕ
+lent c = c .before .before .before .args .quantities .now
+
 returns : tie.Need-returns
 unfolding splitText
 returns c =
-    let is = c .before .before .before .read .ensures in
-    let quantities = c .before .before .before .before .before .before .args .quantities .now in
-    c .refused .ensures ∙ if-refused (λ (r : BookRead). r .verdict) is (c .before .enum-told .given .1) (accepted quantities) refused
+    let reads = c .before .before .before in
+    c .refused .ensures ∙ if-refused (λ (r : BookRead). r .verdict) (reads .read .ensures) (c .before .enum-told .given .1) (accepted (lent reads)) refused
 
 returns-2 : tie.Need-returns-2
 unfolding splitText
 returns-2 c =
     let told = c .before .before in
-    let is = told .before .before .read .ensures in
-    let quantities = told .before .before .before .before .before .args .quantities .now in
-    c .price-split .ensures ∙ if-accepted (λ (r : BookRead). r .verdict) is (told .enum-told2 .given .1) (accepted quantities) refused
+    let reads = told .before .before in
+    c .price-split .ensures ∙ if-accepted (λ (r : BookRead). r .verdict) (reads .read .ensures) (told .enum-told2 .given .1) (accepted (lent reads)) refused
 
 pub price-split-spec : {M : Type 1} → statement M
 price-split-spec =

@@ -1,4 +1,4 @@
--- Beside a refusal of the text stands 0; else the room figure of its book.
+-- The reading's verdict decides, as in the definition: 0 beside a refusal, else the room figure of the book read.
 use mathlib.Core.Path.{_∙_}
 use borrow.Author.Needs.{needs}
 use Rattle.book.specs.declared.RoomFigure.{RoomFigure}

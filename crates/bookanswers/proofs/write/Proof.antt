@@ -1,4 +1,4 @@
--- Beside a refusal of the text nothing is written; else its book, which is accepted itself, so that only a short output is refused.
+-- The reading's verdict decides: beside a refusal nothing is written; else the book read, which is accepted, so only a short output is refused.
 use mathlib.Core.List.{List}
 use mathlib.Core.Path.{sym, ap, _∙_}
 use Prim.Native.Nat.{ℕ}
@@ -25,12 +25,12 @@ returns c =
 returns-2 : tie.Need-returns-2
 unfolding bookWritten bookOutput
 returns-2 c =
-    let write = c .before .before .write in
-    let told = c .before .before .before .before .before in
+    let written = c .before .before in
+    let told = written .before .before .before in
     let is = told .before .before .read .ensures in
     let here = told .enum-told2 .given .1 in
     let accepted = ap (λ (r : BookRead). bookVerdict (bookEntries (r .book))) is ∙ book-accepted _ (ap (λ (r : BookRead). r .verdict) (sym is) ∙ here) in
-    text-written (λ (r : BookRead). r .verdict) is here text _ accepted (write .ensures)
+    text-written (λ (r : BookRead). r .verdict) is here text _ accepted (written .write .ensures)
 
 pub write-spec : {M : Type 1} → statement M
 write-spec =

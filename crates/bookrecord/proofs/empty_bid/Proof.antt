@@ -1,4 +1,4 @@
--- The record is written out. Assumes nothing.
+-- Each segment is what `empty_segment` gives, and all else is zero, as in the definition.
 use borrow.Author.Needs.{needs}
 use Rattle.bookrecord.proofs.empty_bid.Statement.{statement}
 use Rattle.bookrecord.proofs.empty_bid.Tie as tie

@@ -1,4 +1,4 @@
--- The record is written out. Assumes nothing.
+-- Each bid is what `empty_bid` gives, and all else is zero, as in the definition.
 use borrow.Author.Needs.{needs}
 use Rattle.bookrecord.proofs.empty_book.Statement.{statement}
 use Rattle.bookrecord.proofs.empty_book.Tie as tie

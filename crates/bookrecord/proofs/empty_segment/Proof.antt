@@ -1,4 +1,4 @@
--- The record is written out. Assumes nothing.
+-- Each field is that of the definition.
 use mathlib.Core.Path.{refl}
 use Rattle.bookrecord.proofs.empty_segment.Statement.{statement}
 use Rattle.bookrecord.proofs.empty_segment.Tie as tie

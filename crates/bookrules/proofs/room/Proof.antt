@@ -1,4 +1,4 @@
--- Beside a refusal 0, and else 17 and the part for the bids.
+-- The check's verdict decides, as in the definition: 0 beside a refusal, else 17 and what `room_of_bids` gives.
 use mathlib.Core.Path.{sym, _∙_}
 use borrow.Author.Needs.{needs}
 use Rattle.book.specs.Room.{roomOf}

@@ -1,4 +1,4 @@
--- There are 400 books.
+-- A turn takes one book more, up to 400, so the loop ends.
 use Prim.Native.Nat.{_-_, _≤_}
 use borrow.Author.Needs.{needs}
 use Rattle.clearcases.proofs.count.Statement.{statement}

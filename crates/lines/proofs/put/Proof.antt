@@ -1,4 +1,4 @@
--- The loop keeps that the parts passed are put one after the other (`put-next`). Assumes nothing.
+-- A turn puts one part more right after those before it (`put-next`), so that after the last turn all of the line is put.
 use Prim.Native.Nat.{ℕ, _+_, _*_, _-_, _≤_}
 use native.Mathlib.Omega.{arith}
 use mathlib.Core.Path.{_≡_, refl, ap, _∙_}
@@ -21,8 +21,15 @@ Inv-loop out₀ at line next₀ i₀ out next i =
 abbrev μ-loop : tie.MeasureT-loop
 μ-loop out₀ at line next₀ i₀ out next i = 8 - i
 
-eight : (c : tie.At-loop Inv-loop μ-loop) → length (c .before .before .args .t3) ≡ 8
-eight c = search (length-held, c .before .before .good)
+abbrev start : tie.At-loop Inv-loop μ-loop → tie.Start Inv-loop μ-loop
+start c = c .before .before
+
+-- the turn in which a part is put
+abbrev turn : tie.After-put-part Inv-loop μ-loop → tie.At-loop Inv-loop μ-loop
+turn c = c .before .before .before .before
+
+eight : (c : tie.At-loop Inv-loop μ-loop) → length (start c .args .t3) ≡ 8
+eight c = search (length-held, start c .good)
 
 loop-holds : tie.Need-loop-holds Inv-loop μ-loop
 loop-holds c = (omega arith, omega arith, refl, put-none _ _)
@@ -30,15 +37,15 @@ loop-holds c = (omega arith, omega arith, refl, put-none _ _)
 loop-again : tie.Need-loop-again Inv-loop μ-loop
 loop-again c =
     let p = c .before .before .put-part in
-    let l = c .before .before .before .before .before .before in
-    let a = l .before .before .args in
-    let at = l .loop in
+    let t = turn (c .before .before) in
+    let a = start t .args in
+    let at = t .loop in
     let text = put-next (a .out .now) (a .at) partText (a .t3) (at .i) Nothing (at .out) (at .next) (p .last .0) (p .result) in
-    (omega arith, omega (arith, p .ensures .1), p .kept .0 ∙ at .inv .2, text (omega (arith, eight l)) (at .inv .2) (at .inv .3) (p .ensures .0))
+    (omega arith, omega (arith, p .ensures .1), p .kept .0 ∙ at .inv .2, text (omega (arith, eight t)) (at .inv .2) (at .inv .3) (p .ensures .0))
 
 returns : tie.Need-returns Inv-loop μ-loop
 returns c =
-    let a = c .before .before .before .args in
+    let a = start (c .before) .args in
     let at = c .before .loop in
     let all : take (at .i) (a .t3) ≡ a .t3 = take-all (at .i) (a .t3) (omega (arith, eight (c .before))) in
     (put-as (a .out .now) (a .at) _ _ (at .out) (at .next) (ap (joined partText) all) (at .inv .3), omega arith)

@@ -1,4 +1,4 @@
--- A turn copies one number more: so many of the numbers stand from `at` on, and after the last turn all of them.
+-- A turn stores one number more: the numbers before `i` stand from `at` on, and after the last turn all of them.
 use Prim.Native.Nat.{ℕ, _+_, _-_, _≤_}
 use native.Mathlib.Numerals.{add-one}
 use native.Mathlib.Omega.{arith}

@@ -1,4 +1,4 @@
--- A turn puts the seven numbers of one row more after those of the rows before it.
+-- A turn puts the seven numbers of one row more right after those of the rows before it, so that after the last turn all are put.
 use Prim.Native.Nat.{ℕ, _+_, _*_, _-_, _≤_}
 use native.Mathlib.Omega.{arith}
 use mathlib.Core.Path.{_≡_, refl, sym, ap, _∙_}
@@ -20,8 +20,15 @@ Inv-loop rows₀ award i₀ rows i =
 abbrev μ-loop : tie.MeasureT-loop
 μ-loop rows₀ award i₀ rows i = award .count - i
 
-eight : (c : tie.At-loop Inv-loop μ-loop) → length (c .before .before .args .t2 .rows) ≡ 8
-eight c = search (length-held, c .before .before .good)
+abbrev start : tie.In-loop Inv-loop μ-loop → tie.Start Inv-loop μ-loop
+start t = t .before .before .before
+
+-- the turn in which a row is turned into numbers
+abbrev turn : tie.After-row-numbers Inv-loop μ-loop → tie.In-loop Inv-loop μ-loop
+turn c = c .before .before
+
+eight : (t : tie.In-loop Inv-loop μ-loop) → length (start t .args .t2 .rows) ≡ 8
+eight t = search (length-held, start t .good)
 
 loop-holds : tie.Need-loop-holds Inv-loop μ-loop
 loop-holds c = (omega arith, refl, wrote-none (c .before .args .rows .now) 0 .1)
@@ -30,21 +37,21 @@ seven : (c : tie.After-row-numbers Inv-loop μ-loop) → length (c .row-numbers 
 seven c = ap length (c .row-numbers .ensures) ∙ row-size _
 
 put-requires : tie.Need-put-requires Inv-loop μ-loop
-put-requires c κs = let s = c .before .before in omega (arith, seven s, s .before .before .before .before .before .pre .1)
+put-requires c κs = let numbers = c .before .before in omega (arith, seven numbers, start (turn numbers) .pre .1)
 
 loop-again : tie.Need-loop-again Inv-loop μ-loop
 loop-again c =
-    let put = c .before .before .put in
-    let numbers = c .before .before .before .before .before in
-    let l = numbers .before .before in
-    let at = l .before .loop in
-    let s = l .before .before .before in
+    let put = c .before .before in
+    let numbers = put .before .before .before in
+    let t = turn numbers in
+    let at = t .before .loop in
+    let s = start t in
     let award = s .args .t2 in
-    let held : award .count ≤ length (award .rows) = omega (arith, eight (l .before), s .pre .0) in
-    let within : at .i + 1 ≤ award .count = omega (arith, l .loop-test .taken) in
-    let this = rw (numbers .row-numbers .ensures) at (put .ensures) in
-    let next = next-row (s .args .rows .now) (award .rows) (at .i) (award .count) _ (at .rows) (put .last .0) in
-    (within, put .kept .0 ∙ at .inv .1, next (l .loop-test .taken) held (s .pre .1) (at .inv .2) this)
+    let held : award .count ≤ length (award .rows) = omega (arith, eight t, s .pre .0) in
+    let within : at .i + 1 ≤ award .count = omega (arith, t .loop-test .taken) in
+    let this = rw (numbers .row-numbers .ensures) at (put .put .ensures) in
+    let next = next-row (s .args .rows .now) (award .rows) (at .i) (award .count) _ (at .rows) (put .put .last .0) in
+    (within, put .put .kept .0 ∙ at .inv .1, next (t .loop-test .taken) held (s .pre .1) (at .inv .2) this)
 
 returns : tie.Need-returns Inv-loop μ-loop
 unfolding awardNumbers
@@ -61,10 +68,10 @@ put-rows-spec =
     Inv-loop
     μ-loop
     loop-holds
-    (λ c. omega (arith, c .before .before .before .pre .0))
-    (λ c. omega (arith, c .before .before .before .pre .0))
+    (λ c. omega (arith, start c .pre .0))
+    (λ c. omega (arith, start c .pre .0))
     (λ c κs. search needs)
-    (λ c. omega (arith, c .before .before .before .before .before .before .pre .0))
+    (λ c. omega (arith, start (turn (c .before)) .pre .0))
     (λ c. sym (seven (c .before .before)))
     put-requires
     (λ c. search needs) (λ c. search needs)

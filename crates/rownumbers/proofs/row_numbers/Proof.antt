@@ -1,4 +1,4 @@
--- Each number stands in its column, as what is called gives it.
+-- Each number is that of the definition: a field of the row, or what the function called for it gives.
 use mathlib.Core.Path.{refl}
 use borrow.Author.Needs.{needs}
 use Rattle.rownumbers.specs.RowNumbers.{rowNumbers}

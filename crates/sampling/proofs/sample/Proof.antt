@@ -1,4 +1,4 @@
--- The table in the code is the printed one.
+-- The table in the code is the printed one, so what `sample_in` gives by it is the sample.
 use borrow.Author.Needs.{needs}
 use Rattle.sampling.specs.Sampling.{printedTable}
 use Rattle.sampling.proofs.sample.Statement.{statement}

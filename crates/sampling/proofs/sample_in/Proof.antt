@@ -1,4 +1,4 @@
--- The quantity is above the bands passed, and the first that reaches it has the sample.
+-- The quantity is above the bands before `i`, so the first band that reaches it has its sample.
 use Prim.Native.Nat.{ℕ, _≤_, _<_, _-_}
 use mathlib.Core.Path.{_≡_, sym, ap, _∙_}
 use native.Mathlib.Omega.{arith}
@@ -19,6 +19,9 @@ Inv-loop q bands i₀ i =
 abbrev μ-loop : tie.MeasureT-loop
 μ-loop q bands i₀ i = 16 - i
 
+abbrev start : tie.In-loop Inv-loop μ-loop → tie.Start Inv-loop μ-loop
+start turn = turn .before .before .before
+
 returns : tie.Need-returns Inv-loop μ-loop
 unfolding sampleOf
 returns c = rw (c .if1 .taken) (sym (zero-samples 0 (c .before .args .t1)))
@@ -32,24 +35,24 @@ loop-holds c =
 
 returns-2 : tie.Need-returns-2 Inv-loop μ-loop
 returns-2 c =
-    let l = c .before .before .before in
-    let a = l .before .before .before .args in
-    let at = l .before .loop in
+    let turn = c .before .before .before in
+    let a = start turn .args in
+    let at = turn .before .loop in
     let (before, above, left) = at .inv .2 in
-    sym (left ∙ scan-stop before (a .q) (a .t1) (at .i) 16 above (l .loop-test .taken) (at .inv .1) (c .if2 .taken))
+    sym (left ∙ scan-stop before (a .q) (a .t1) (at .i) 16 above (turn .loop-test .taken) (at .inv .1) (c .if2 .taken))
 
 loop-again : tie.Need-loop-again Inv-loop μ-loop
 loop-again c =
-    let l = c .before .before .before in
-    let a = l .before .before .before .args in
-    let at = l .before .loop in
+    let turn = c .before .before .before in
+    let a = start turn .args in
+    let at = turn .before .loop in
     let (before, above, left) = at .inv .2 in (
       omega arith,
       at .inv .1,
       (
         getD (a .t1) (at .i) (band 0 0) .highest,
         c .if2 .left,
-        left ∙ scan-next before (a .q) (a .t1) (at .i) 16 above (l .loop-test .taken) (at .inv .1) (c .if2 .left),
+        left ∙ scan-next before (a .q) (a .t1) (at .i) 16 above (turn .loop-test .taken) (at .inv .1) (c .if2 .left),
       ),
     )
 

@@ -1,4 +1,4 @@
--- Each end of the range is tested once.
+-- The definition is both comparisons: the first that fails decides, and else the second does.
 use borrow.Author.Tests.{lt-leb, le-leb}
 use Rattle.segmentrules.proofs.within.Statement.{statement}
 use Rattle.segmentrules.proofs.within.Tie as tie

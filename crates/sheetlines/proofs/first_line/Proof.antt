@@ -1,4 +1,4 @@
--- The parts, one after the other, are the text. Assumes nothing.
+-- The texts of the parts, one after the other, are the sheet's first line.
 use Rattle.lines.proofs.Together.{together}
 use Rattle.sheetlines.proofs.first_line.Statement.{statement}
 use Rattle.sheetlines.proofs.first_line.Tie as tie

@@ -1,4 +1,4 @@
--- The parts, one after the other, are the text. Assumes nothing.
+-- The texts of the parts, one after the other, are the text of the row.
 use borrow.Author.Needs.{needs}
 use Rattle.lines.proofs.Together.{together}
 use Rattle.sheettext.specs.Sheet.{rowText}

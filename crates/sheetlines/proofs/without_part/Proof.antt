@@ -1,4 +1,4 @@
--- By cases of the total. Assumes nothing.
+-- By cases of the total: the text of the part is the word and the amount, or the word for `none`.
 use borrow.Author.Needs.{needs}
 use Rattle.sheettext.specs.Sheet.{totalText}
 use Rattle.sheetlines.proofs.without_part.Statement.{statement}

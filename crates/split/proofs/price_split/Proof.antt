@@ -1,4 +1,4 @@
--- A refused book is refused here, and an accepted one is priced.
+-- The check's verdict decides: a refused book is refused with its verdict, and an accepted one is priced.
 use mathlib.Core.Path.{sym, ap, _∙_}
 use borrow.Author.Needs.{needs}
 use Rattle.split.specs.Split.{refusedSplit}

@@ -1,4 +1,4 @@
--- The record is written out.
+-- Each field is that of the definition.
 use borrow.Author.Needs.{needs}
 use Rattle.split.proofs.refused.Statement.{statement}
 use Rattle.split.proofs.refused.Tie as tie

@@ -1,4 +1,4 @@
--- `find` goes through the supply function from segment 0: those passed do not have the quantity, and it stops at one that has it.
+-- The quantity is on none of the segments before `number`, from segment 0 on, so the first that it is on ends the loop.
 use Prim.Native.Nat.{ℕ, _+_, _≤_, _<_, _-_}
 use mathlib.Core.Bool.{Bool, false}
 use mathlib.Core.Path.{_≡_, sym, _∙_}
@@ -20,19 +20,22 @@ Inv-loop bid quantity number₀ number =
 abbrev μ-loop : tie.MeasureT-loop
 μ-loop bid quantity number₀ number = bid .count + 1 - number
 
--- what the test of a segment shows of it
+-- the turn in which a segment is tested
+abbrev turn : tie.After-on-segment Inv-loop μ-loop → tie.At-loop Inv-loop μ-loop
+turn c = c .before .before .before .before
+
+-- what the test shows of it
 tested : (c : tie.After-on-segment Inv-loop μ-loop) (t : Bool) → c .on-segment .result ≡ t
-    → let l = c .before .before .before .before in
-    on (getD (supplyOf (bidEntries (l .before .args .bid))) (l .loop .number) segment0) (l .before .args .quantity .0) ≡ t
+    → let a = turn c .before .args in on (getD (supplyOf (bidEntries (a .bid))) (turn c .loop .number) segment0) (a .quantity .0) ≡ t
 tested c t e = rw (← c .before .segment-of .ensures .1) (sym (c .on-segment .ensures) ∙ e)
 
 returns : tie.Need-returns Inv-loop μ-loop
 returns c =
     let call = c .before in
-    record { there = call .before .segment-of .ensures .0; here = tested call _ (c .if2 .taken); before = call .before .before .before .before .loop .inv .1 }
+    record { there = call .before .segment-of .ensures .0; here = tested call _ (c .if2 .taken); before = turn call .loop .inv .1 }
 
 loop-again : tie.Need-loop-again Inv-loop μ-loop
-loop-again c = (omega arith, below-more _ _ (c .before .before .before .before .before .loop .inv .1) (tested (c .before) _ (c .if2 .left)))
+loop-again c = (omega arith, below-more _ _ (turn (c .before) .loop .inv .1) (tested (c .before) _ (c .if2 .left)))
 
 returns-2 : tie.Need-returns-2 Inv-loop μ-loop
 returns-2 c =

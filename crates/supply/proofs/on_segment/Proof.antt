@@ -1,4 +1,4 @@
--- Start and end are each tested once.
+-- The definition is both comparisons: the first that fails decides, and else the second does.
 use borrow.Author.Tests.{lt-leb, le-leb}
 use Rattle.supply.specs.Supply.{on}
 use Rattle.supply.proofs.on_segment.Statement.{statement}

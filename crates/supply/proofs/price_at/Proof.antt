@@ -1,4 +1,4 @@
--- `price_at` prices the quantity on the segment that `find` gives, and that price is the offer; its parts are in range, so it fits.
+-- The offer is the price on the segment that `find` gives; the segment is in range, so the price fits.
 use mathlib.Core.Path.{sym, ap, _∙_}
 use native.Mathlib.Omega.{arith}
 use borrow.Author.Needs.{needs}
@@ -13,9 +13,13 @@ use Rattle.supply.proofs.Offers.{offer-found, offer-nowhere, Limits, li
 use Rattle.supply.proofs.price_at.Statement.{statement}
 use Rattle.supply.proofs.price_at.Tie as tie
 
--- what `find` tells where it gives a number
+-- the call, from where `find` has given a number
+abbrev start : tie.After-known-told → tie.Start
+start c = c .before .before .before .before
+
+-- what `find` tells there
 first : (c : tie.After-known-told)
-    → FirstOn (supplyOf (bidEntries (c .before .before .before .before .args .bid))) (c .before .before .before .before .args .quantity .0) (c .before .place .given .0 .0)
+    → let a = start c .args in FirstOn (supplyOf (bidEntries (a .bid))) (a .quantity .0) (c .before .place .given .0 .0)
 first c = rw (c .before .place .given .1) at (c .before .before .before .find .ensures)
 
 returns : tie.Need-returns
@@ -23,21 +27,21 @@ returns c = sym (offer-nowhere _ _ (rw (c .enum-told .given .1) at (c .before .b
 
 segment-of-requires : tie.Need-segment-of-requires
 segment-of-requires c κs =
-    let b = c .before .before .before .before .args .bid in
+    let b = start c .args .bid in
     (search needs, omega (arith, number-counted (b .segments) (b .count) _ (first c .there)))
 
 price-requires : tie.Need-price-requires
 price-requires c κs =
     let told = c .before .before .before in
-    let s = told .before .before .before .before in
+    let s = start told in
     let there = c .before .before .segment-of in
     let range : Limits (there .result) = rw (there .ensures .1) (limits (bidEntries (s .args .bid)) (s .pre .1) _ (there .ensures .0)) in
     price-fits (there .result) _ (range .unit-high) (range .fixed-size) (found-small (bidEntries (s .args .bid)) (s .pre .1) _ _ (first told))
 
 returns-2 : tie.Need-returns-2
 returns-2 c =
-    let told = c .before .before .before .before in
-    ap (λ (z : ℤ). Price (record { 0 = z })) (c .price .ensures) ∙ rw (c .before .before .before .segment-of .ensures .1) (sym (offer-found _ _ _ (first told)))
+    let there = c .before .before .before in
+    ap (λ (z : ℤ). Price (record { 0 = z })) (c .price .ensures) ∙ rw (there .segment-of .ensures .1) (sym (offer-found _ _ _ (first (there .before))))
 
 pub price-at-spec : {M : Type 1} → statement M
 price-at-spec =

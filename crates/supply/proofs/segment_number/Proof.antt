@@ -1,4 +1,4 @@
--- `segment_number` gives the number that `find` found, and 0 where there is none, as the definition does.
+-- The number is that of the segment that `find` gives, the first that the quantity is on, and 0 where there is none.
 use mathlib.Core.Path.{sym}
 use borrow.Author.Needs.{needs}
 use Rattle.supply.proofs.Places.{number-found, number-nowhere}

@@ -1,4 +1,4 @@
--- The bids passed are accepted, and those left decide; the line counts along.
+-- The bids before `i` are accepted, so those left decide, from the line `2 + i` on; one that is refused ends the loop.
 use Prim.Native.Nat.{_+_, _≤_, _-_, min}
 use mathlib.Core.List.{List, map}
 use mathlib.Core.Path.{_≡_, refl, sym, ap, _∙_}
@@ -31,42 +31,41 @@ loop-holds c =
           (sym (take-held (b .bids) (b .count) (c .held .result) (c .held .ensures ∙ ap (min (b .count)) (sym h)))),
     )
 
+abbrev start : tie.In-loop Inv-loop μ-loop → tie.Start Inv-loop μ-loop
+start t = t .before .before .before
+
+-- the turn in which a bid is checked
+abbrev turn : tie.After-check-bid Inv-loop μ-loop → tie.In-loop Inv-loop μ-loop
+turn c = c .before .before
+
 -- the record holds at least as many bids as the loop goes through
-held : (c : tie.In-loop Inv-loop μ-loop) → c .before .before .held .result ≤ length (c .before .before .before .args .t1 .bids)
-held c =
-    let h : length (c .before .before .before .args .t1 .bids) ≡ 8 = search (length-held, c .before .before .before .good) in
-    omega (arith, c .before .loop .inv .1)
+held : (t : tie.In-loop Inv-loop μ-loop) → t .before .before .held .result ≤ length (start t .args .t1 .bids)
+held t =
+    let h : length (start t .args .t1 .bids) ≡ 8 = search (length-held, start t .good) in
+    omega (arith, t .before .loop .inv .1)
 
 returns : tie.Need-returns Inv-loop μ-loop
 returns c =
-    let l = c .before .before .before .before in
-    let at = l .before .loop in
-    let bids = l .before .before .before .args .t1 .bids in
-    let n = l .before .before .held .result in
+    let checked = c .before .before in
+    let t = turn checked in
+    let at = t .before .loop in
     let told = c .enum-told .given in
-    let refused = sym (c .before .before .check-bid .ensures) ∙ told .1 in
-    told .1
-    ∙ sym (at .inv .3 ∙ bids-stop (at .line) (at .before) bids (at .i) n (l .loop-test .taken) (held l) (told .0 .0) (told .0 .1 .0) refused)
+    let refused = sym (checked .check-bid .ensures) ∙ told .1 in
+    told .1 ∙ sym (at .inv .3 ∙ bids-stop (at .line) (at .before) _ _ _ (t .loop-test .taken) (held t) (told .0 .0) (told .0 .1 .0) refused)
 
 loop-again : tie.Need-loop-again Inv-loop μ-loop
 loop-again c =
-    let l = c .before .before .before .before in
-    let at = l .before .loop in
-    let bids = l .before .before .before .args .t1 .bids in
-    let n = l .before .before .held .result in
-    let accepted = sym (c .before .before .check-bid .ensures) ∙ c .enum-told2 .given .1 in (
-      omega arith,
-      at .inv .1,
-      omega (arith, at .inv .2),
-      at .inv .3 ∙ bids-next (at .line) (at .before) bids (at .i) n (l .loop-test .taken) (held l) accepted,
-    )
+    let checked = c .before .before in
+    let t = turn checked in
+    let at = t .before .loop in
+    let accepted = sym (checked .check-bid .ensures) ∙ c .enum-told2 .given .1 in
+    let next = bids-next (at .line) (at .before) _ _ _ (t .loop-test .taken) (held t) accepted in
+    (omega arith, at .inv .1, omega (arith, at .inv .2), at .inv .3 ∙ next)
 
 returns-2 : tie.Need-returns-2 Inv-loop μ-loop
 returns-2 c =
     let at = c .before .loop in
-    let bids = c .before .before .before .args .t1 .bids in
-    let n = c .before .before .held .result in
-    sym (at .inv .3 ∙ bids-done (at .line) (at .before) bids (at .i) n (at .inv .0) (c .loop-test .left))
+    sym (at .inv .3 ∙ bids-done (at .line) (at .before) _ _ _ (at .inv .0) (c .loop-test .left))
 
 pub check-bids-spec : {M : Type 1} → statement M
 check-bids-spec =

@@ -1,4 +1,4 @@
--- The loop keeps that the bids passed are put one after the other (`put-next`). Assumes nothing.
+-- A turn puts one bid more right after those before it (`put-next`), so that after the last turn all are put.
 use Prim.Native.Nat.{ℕ, _+_, _*_, _-_, _≤_, _<_}
 use native.Mathlib.Omega.{arith}
 use mathlib.Core.Path.{_≡_, refl, sym, ap, _∙_}
@@ -23,37 +23,46 @@ Inv-loop out₀ at book next₀ i₀ out next i =
 abbrev μ-loop : tie.MeasureT-loop
 μ-loop out₀ at book next₀ i₀ out next i = book .count - i
 
-eight : (c : tie.At-loop Inv-loop μ-loop) → length (c .before .before .args .t3 .bids) ≡ 8
-eight c = search (length-held, c .before .before .good)
+abbrev start : tie.At-loop Inv-loop μ-loop → tie.Start Inv-loop μ-loop
+start c = c .before .before
 
-few : (c : tie.At-loop Inv-loop μ-loop) → c .before .before .args .t3 .count ≤ 8
-few c = few-bids (c .before .before .args .t3) (c .before .before .pre .0) (eight c)
+-- the turn whose bid is put
+abbrev turn : tie.After-slice-known2 Inv-loop μ-loop → tie.At-loop Inv-loop μ-loop
+turn c = c .before .before .before .before .before .before
+
+eight : (c : tie.At-loop Inv-loop μ-loop) → length (start c .args .t3 .bids) ≡ 8
+eight c = search (length-held, start c .good)
+
+few : (c : tie.At-loop Inv-loop μ-loop) → start c .args .t3 .count ≤ 8
+few c = few-bids (start c .args .t3) (start c .pre .accepted) (eight c)
 
 this-bid : (c : tie.In-loop Inv-loop μ-loop)
-    → AcceptedBid (bidEntries (getD (c .before .before .before .args .t3 .bids) (c .before .loop .i) noBid))
+    → AcceptedBid (bidEntries (getD (start (c .before) .args .t3 .bids) (c .before .loop .i) noBid))
 this-bid c =
-    let s = c .before .before .before in
-    bid-at (s .args .t3) (s .pre .0) (eight (c .before)) (c .before .loop .i) (c .loop-test .taken)
+    let s = start (c .before) in
+    bid-at (s .args .t3) (s .pre .accepted) (eight (c .before)) (c .before .loop .i) (c .loop-test .taken)
 
 loop-holds : tie.Need-loop-holds Inv-loop μ-loop
 loop-holds c = (omega arith, omega arith, refl, put-none _ _)
 
 put-bid-requires : tie.Need-put-bid-requires Inv-loop μ-loop
-put-bid-requires c κs = (this-bid (c .before .before) .count-high, omega (arith, few (c .before .before .before)))
+put-bid-requires c κs =
+    let turn = c .before .before in
+    record { held = this-bid turn .count-high; place = omega (arith, few (turn .before)) }
 
 loop-again : tie.Need-loop-again Inv-loop μ-loop
 loop-again c =
     let p = c .before .before .put-bid in
-    let l = c .before .before .before .before .before .before in
-    let a = l .before .before .args in
-    let at = l .loop in
+    let t = turn c in
+    let a = start t .args in
+    let at = t .loop in
     let text = put-next (a .out .now) (a .at) bidLine (a .t3 .bids) (at .i) noBid (at .out) (at .next) (p .last .0) (p .result) in
-    let within : at .i < length (a .t3 .bids) = omega (arith, eight l, few l) in
+    let within : at .i < length (a .t3 .bids) = omega (arith, eight t, few t) in
     (omega arith, omega (arith, p .ensures .1), p .kept .0 ∙ at .inv .2, text within (at .inv .2) (at .inv .3) (p .ensures .0))
 
 returns : tie.Need-returns Inv-loop μ-loop
 returns c =
-    let a = c .before .before .before .args in
+    let a = start (c .before) .args in
     let at = c .before .loop in
     let done : at .i ≡ a .t3 .count = omega arith in
     put-as _ _ _ _ _ _ (ap (λ n. joined bidLine (take n (a .t3 .bids))) done ∙ sym (bid-lines (a .t3))) (at .inv .3)
@@ -68,7 +77,7 @@ put-bids-spec =
     (λ c. omega (arith, few (c .before)))
     (λ c. omega (arith, few (c .before)))
     put-bid-requires
-    (λ c. omega (arith, few (c .before .before .before .before .before .before)))
+    (λ c. omega (arith, few (turn c)))
     (λ c. search needs)
     loop-again
     (λ c. c .before .loop .inv .2)

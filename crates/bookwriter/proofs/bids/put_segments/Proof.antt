@@ -1,4 +1,4 @@
--- The loop keeps that the segments passed are put one after the other (`put-next`). Assumes nothing.
+-- A turn puts one segment more right after those before it (`put-next`), so that after the last turn all are put.
 use Prim.Native.Nat.{ℕ, _+_, _*_, _-_, _≤_, _<_}
 use native.Mathlib.Omega.{arith}
 use mathlib.Core.Path.{_≡_, refl, ap, _∙_}
@@ -20,27 +20,31 @@ Inv-loop out₀ at bid next₀ i₀ out next i =
 abbrev μ-loop : tie.MeasureT-loop
 μ-loop out₀ at bid next₀ i₀ out next i = bid .count - i
 
-six : (c : tie.At-loop Inv-loop μ-loop) → length (c .before .before .args .t3 .segments) ≡ 6
-six c = search (length-held, c .before .before .good)
+abbrev start : tie.At-loop Inv-loop μ-loop → tie.Start Inv-loop μ-loop
+start c = c .before .before
+
+six : (c : tie.At-loop Inv-loop μ-loop) → length (start c .args .t3 .segments) ≡ 6
+six c = search (length-held, start c .good)
 
 loop-holds : tie.Need-loop-holds Inv-loop μ-loop
 loop-holds c = (omega arith, omega arith, refl, put-none _ _)
 
 loop-again : tie.Need-loop-again Inv-loop μ-loop
 loop-again c =
-    let p = c .before .before .put in
-    let line = c .before .before .before .before .segment-line in
-    let l = c .before .before .before .before .before .before .before in
-    let a = l .before .before .args in
-    let at = l .loop in
-    let segment = put-as (at .out) (at .next) _ _ (p .last .0) (p .result) (line .ensures) (p .ensures .0) in
+    let put = c .before .before in
+    let line = put .before .before in
+    let turn = line .before .before .before in
+    let a = start turn .args in
+    let at = turn .loop in
+    let p = put .put in
+    let segment = put-as (at .out) (at .next) _ _ (p .last .0) (p .result) (line .segment-line .ensures) (p .ensures .0) in
     let text = put-next (a .out .now) (a .at) segmentText (a .t3 .segments) (at .i) noSegment (at .out) (at .next) (p .last .0) (p .result) in
-    let within : at .i < length (a .t3 .segments) = omega (arith, six l) in
+    let within : at .i < length (a .t3 .segments) = omega (arith, six turn) in
     (omega arith, omega (arith, p .ensures .1), p .kept .0 ∙ at .inv .2, text within (at .inv .2) (at .inv .3) segment)
 
 returns : tie.Need-returns Inv-loop μ-loop
 returns c =
-    let a = c .before .before .before .args in
+    let a = start (c .before) .args in
     let at = c .before .loop in
     let done : at .i ≡ a .t3 .count = omega arith in
     (put-as _ _ _ _ _ _ (ap (λ n. joined segmentText (take n (a .t3 .segments))) done) (at .inv .3), omega arith)

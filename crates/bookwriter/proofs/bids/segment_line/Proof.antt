@@ -1,4 +1,4 @@
--- The parts, one after the other, are the text. Assumes nothing.
+-- The texts of the parts, one after the other, are the text of the segment.
 use Rattle.lines.proofs.Together.{together}
 use Rattle.booktext.specs.BookText.{segmentText}
 use Rattle.bookwriter.proofs.bids.segment_line.Statement.{statement}

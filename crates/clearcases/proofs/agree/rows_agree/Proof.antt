@@ -1,4 +1,4 @@
--- An award has eight rows.
+-- An award has eight rows and the loop goes through eight, so each index is within.
 use Prim.Native.Nat.{_-_, _≤_}
 use borrow.Author.Needs.{needs}
 use Rattle.clearcases.proofs.agree.rows_agree.Statement.{statement}

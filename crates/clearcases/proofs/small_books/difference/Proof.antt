@@ -1,4 +1,4 @@
--- Two numbers up to 100 differ by at most 200.
+-- Two numbers up to 100 differ by at most 200, so the difference fits.
 use Prim.Native.Nat.{ℕ, zero, suc, _≤_}
 use native.Mathlib.Omega.{arith}
 use mathlib.Core.Path.{_≡_, refl, sym, ap₂, subst}

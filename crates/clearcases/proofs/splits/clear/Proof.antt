@@ -1,4 +1,4 @@
--- The splits are numbered from 728 down.
+-- The number of the split falls with each turn, so the loop ends.
 use borrow.Author.Needs.{needs}
 use Rattle.clearcases.proofs.splits.clear.Statement.{statement}
 use Rattle.clearcases.proofs.splits.clear.Tie as tie

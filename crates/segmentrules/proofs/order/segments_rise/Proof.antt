@@ -1,4 +1,4 @@
--- The segments passed rise, and those left decide; one that does not rise ends the loop.
+-- The segments before `i` rise up to `before`, so those left decide; one that does not rise ends the loop.
 use Prim.Native.Nat.{_≤_, _-_}
 use mathlib.Core.Path.{_≡_, refl, sym, _∙_}
 use native.Mathlib.Omega.{arith}
@@ -20,40 +20,41 @@ Inv-loop bid before₀ i₀ before i =
 abbrev μ-loop : tie.MeasureT-loop
 μ-loop bid before₀ i₀ before i = bid .count - i
 
-held : (c : tie.In-loop Inv-loop μ-loop) → c .before .before .args .t1 .count ≤ length (c .before .before .args .t1 .segments)
-held c = let h : length (c .before .before .args .t1 .segments) ≡ 6 = search (length-held, c .before .before .good) in omega arith
+abbrev start : tie.In-loop Inv-loop μ-loop → tie.Start Inv-loop μ-loop
+start t = t .before .before
 
-loop-holds : tie.Need-loop-holds Inv-loop μ-loop
-loop-holds c = (omega arith, refl)
+-- the turn of a segment whose start is above the end before
+abbrev turn : tie.Else1 Inv-loop μ-loop → tie.In-loop Inv-loop μ-loop
+turn c = c .before .before .before
+
+-- the record holds at least as many segments as it counts
+held : (t : tie.In-loop Inv-loop μ-loop) → start t .args .t1 .count ≤ length (start t .args .t1 .segments)
+held t = let h : length (start t .args .t1 .segments) ≡ 6 = search (length-held, start t .good) in omega arith
 
 returns : tie.Need-returns Inv-loop μ-loop
 returns c =
-    let l = c .before .before .before in
-    let b = l .before .before .args .t1 in
-    let at = l .before .loop in
-    sym (at .inv .1 ∙ start-not-above (at .before) (b .segments) (at .i) (b .count) (l .loop-test .taken) (held l) (le-ltb _ _ (c .if1 .taken)))
+    let t = c .before .before .before in
+    let at = t .before .loop in
+    sym (at .inv .1 ∙ start-not-above (at .before) _ _ _ (t .loop-test .taken) (held t) (le-ltb _ _ (c .if1 .taken)))
 
 returns-2 : tie.Need-returns-2 Inv-loop μ-loop
 returns-2 c =
-    let l = c .before .before .before .before .before in
-    let b = l .before .before .args .t1 in
-    let at = l .before .loop in
-    sym (at .inv .1 ∙ start-above-end (at .before) (b .segments) (at .i) (b .count) (l .loop-test .taken) (held l) (lt-leb _ _ (c .if2 .taken)))
+    let t = turn (c .before .before) in
+    let at = t .before .loop in
+    sym (at .inv .1 ∙ start-above-end (at .before) _ _ _ (t .loop-test .taken) (held t) (lt-leb _ _ (c .if2 .taken)))
 
 loop-again : tie.Need-loop-again Inv-loop μ-loop
 loop-again c =
-    let l = c .before .before .before .before .before in
-    let b = l .before .before .args .t1 in
-    let at = l .before .loop in (
-      omega arith,
-      at .inv .1 ∙ rises-next (at .before) (b .segments) (at .i) (b .count) (l .loop-test .taken) (held l) (lt-ltb _ _ (c .before .before .if1 .left)) (le-leb _ _ (c .if2 .left)),
-    )
+    let above = c .before .before in
+    let t = turn above in
+    let at = t .before .loop in
+    let next = rises-next (at .before) _ _ _ (t .loop-test .taken) (held t) (lt-ltb _ _ (above .if1 .left)) (le-leb _ _ (c .if2 .left)) in
+    (omega arith, at .inv .1 ∙ next)
 
 returns-3 : tie.Need-returns-3 Inv-loop μ-loop
 returns-3 c =
-    let b = c .before .before .args .t1 in
     let at = c .before .loop in
-    sym (at .inv .1 ∙ rises-done (at .before) (b .segments) (at .i) (b .count) (at .inv .0) (c .loop-test .left))
+    sym (at .inv .1 ∙ rises-done (at .before) _ _ _ (at .inv .0) (c .loop-test .left))
 
 pub segments-rise-spec : {M : Type 1} → statement M
 segments-rise-spec =
@@ -61,7 +62,7 @@ segments-rise-spec =
     (tie.spec
     Inv-loop
     μ-loop
-    loop-holds
+    (λ c. (omega arith, refl))
     (λ c. search needs) (λ c. search needs)
     returns
     returns-2

@@ -1,4 +1,4 @@
--- The segments passed have passed the test; one that fails it decides.
+-- The segments before `i` have passed the test, so those left decide; one that fails it ends the loop.
 use Prim.Native.Nat.{_≤_, _-_}
 use mathlib.Core.Path.{_≡_, refl, sym, _∙_}
 use native.Mathlib.Omega.{arith}
@@ -21,42 +21,35 @@ Inv-loop test bid i₀ i = (i ≤ bid .count) × (every (testOf test) (bidEntrie
 abbrev μ-loop : tie.MeasureT-loop
 μ-loop test bid i₀ i = bid .count - i
 
+abbrev start : tie.In-loop Inv-loop μ-loop → tie.Start Inv-loop μ-loop
+start turn = turn .before .before
+
 -- the record holds at least as many segments as it counts
-held : (c : tie.In-loop Inv-loop μ-loop) → c .before .before .args .t2 .count ≤ length (c .before .before .args .t2 .segments)
-held c = let h : length (c .before .before .args .t2 .segments) ≡ 6 = search (length-held, c .before .before .good) in omega arith
+held : (turn : tie.In-loop Inv-loop μ-loop) → start turn .args .t2 .count ≤ length (start turn .args .t2 .segments)
+held turn = let h : length (start turn .args .t2 .segments) ≡ 6 = search (length-held, start turn .good) in omega arith
 
 passes-requires : tie.Need-passes-requires Inv-loop μ-loop
 passes-requires c κs =
-    let l = c .before in
-    let x = l .before .before .args in
-    let b = x .t2 in
-    every-within (askedOf (x .test)) (b .segments) (l .before .loop .i) (b .count) noSegment (l .loop-test .taken) (held l) (l .before .before .pre .1)
+    let turn = c .before in
+    let s = start turn in
+    every-within (askedOf (s .args .test)) _ _ _ noSegment (turn .loop-test .taken) (held turn) (s .pre .asked)
 
 returns : tie.Need-returns Inv-loop μ-loop
 returns c =
-    let l = c .before .before .before in
-    let x = l .before .before .args in
-    let b = x .t2 in
-    let at = l .before .loop in
+    let turn = c .before .before .before in
     let fails = failed (c .before .passes .ensures) (c .if1 .taken) in
-    sym (at .inv .1 ∙ every-stop (testOf (x .test)) (b .segments) (at .i) (b .count) noSegment (l .loop-test .taken) (held l) fails)
+    sym (turn .before .loop .inv .1 ∙ every-stop (testOf (start turn .args .test)) _ _ _ noSegment (turn .loop-test .taken) (held turn) fails)
 
 loop-again : tie.Need-loop-again Inv-loop μ-loop
 loop-again c =
-    let l = c .before .before .before in
-    let x = l .before .before .args in
-    let b = x .t2 in
-    let at = l .before .loop in
-    let passes = passed (c .before .passes .ensures) (c .if1 .left) in (
-      omega arith,
-      at .inv .1 ∙ every-next (testOf (x .test)) (b .segments) (at .i) (b .count) noSegment (l .loop-test .taken) (held l) passes,
-    )
+    let turn = c .before .before .before in
+    let passes = passed (c .before .passes .ensures) (c .if1 .left) in
+    (omega arith, turn .before .loop .inv .1 ∙ every-next (testOf (start turn .args .test)) _ _ _ noSegment (turn .loop-test .taken) (held turn) passes)
 
 returns-2 : tie.Need-returns-2 Inv-loop μ-loop
 returns-2 c =
-    let x = c .before .before .args in
-    let b = x .t2 in
-    sym (c .before .loop .inv .1 ∙ every-done (testOf (x .test)) (b .segments) (c .before .loop .i) (b .count) (c .before .loop .inv .0) (c .loop-test .left))
+    let at = c .before .loop in
+    sym (at .inv .1 ∙ every-done (testOf (c .before .before .args .test)) _ _ _ (at .inv .0) (c .loop-test .left))
 
 pub all-pass-spec : {M : Type 1} → statement M
 all-pass-spec =

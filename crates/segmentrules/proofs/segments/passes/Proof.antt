@@ -1,4 +1,4 @@
--- Each test's function is called.
+-- By cases of the test: the function called for it gives the test's value, and what the test asks is what that function requires.
 use borrow.Author.Needs.{needs}
 use Rattle.segmentrules.proofs.segments.passes.Statement.{statement}
 use Rattle.segmentrules.proofs.segments.passes.Tie as tie

@@ -1,4 +1,4 @@
--- Each number is tested in turn; all of them decide.
+-- The rule is that each number passes its test: a test that fails decides, and else the last one does.
 use mathlib.Core.Bool.{true}
 use mathlib.Core.Path.{_≡_}
 use borrow.Author.Needs.{needs}
@@ -7,14 +7,17 @@ use Rattle.book.specs.Rules.{within, segmentInRange}
 use Rattle.segmentrules.proofs.segments.segment_in_range.Statement.{statement}
 use Rattle.segmentrules.proofs.segments.segment_in_range.Tie as tie
 
+abbrev start : tie.Else2 → tie.Start
+start c = c .before .before .before .before
+
 -- what each test shows
 start-kept : (c : tie.Else1) → within 1 1000000 (c .before .before .args .s .start .0) ≡ true
 start-kept c = passed (c .before .within .ensures) (c .if1 .left)
 
-end-kept : (c : tie.Else2) → within 1 1000000 (c .before .before .before .before .args .s .end .0) ≡ true
+end-kept : (c : tie.Else2) → within 1 1000000 (start c .args .s .end .0) ≡ true
 end-kept c = passed (c .before .within2 .ensures) (c .if2 .left)
 
-unit-kept : (c : tie.Else3) → within 0 1000000 (c .before .before .before .before .before .before .args .s .unit .0) ≡ true
+unit-kept : (c : tie.Else3) → within 0 1000000 (start (c .before .before) .args .s .unit .0) ≡ true
 unit-kept c = passed (c .before .within3 .ensures) (c .if3 .left)
 
 returns : tie.Need-returns

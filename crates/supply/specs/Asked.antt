@@ -1,0 +1,16 @@
+-- For the contracts of `segment_of` and `price_at`: what they ask of a bid. A bid of an accepted book has it.
+use Prim.Native.Nat.{ℕ, _≤_}
+use mathlib.Core.Bool.{true}
+use mathlib.Core.Path.{_≡_}
+use Rattle.lists.specs.Every.{every}
+use Rattle.book.specs.declared.Bid.{Bid}
+use Rattle.book.specs.Entries.{bidEntries}
+use Rattle.book.specs.Rules.{segmentInRange}
+
+-- the record holds each segment that the bid counts, and the number is 0 or that of one of them
+abbrev pub HasSegment : Bid → ℕ → Type 0
+HasSegment bid number = (bid .count ≤ 6) × (number ≤ bid .count)
+
+-- the record holds each segment that the bid counts, and each is in range, so that every price fits
+abbrev pub Priceable : Bid → Type 0
+Priceable bid = (bid .count ≤ 6) × (every segmentInRange (bidEntries bid .segments) ≡ true)
