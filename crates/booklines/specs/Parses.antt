@@ -16,7 +16,7 @@ use Rattle.bookrecord.specs.Adding.{withSegments, withBids}
 -- what a function asks that adds entries to a record: a place in the text, and a record that has none
 pub record AddingAsks (t : List ℕ) (from : Cursor) (count : ℕ) : Type 0 where
   pub within : from .at ≤ length t
-  pub none : count ≡ 0
+  pub empty : count ≡ 0
 
 -- the head of a book, in the record of a book with no bid
 abbrev pub ParsesDemand : List ℕ → Cursor → Book → Cursor → Type 0

@@ -27,9 +27,9 @@ bookAnswer b =
     let verdict = bookVerdict (bookEntries (bookRecord b)) in
     record { verdict = verdict; book = whenAccepted verdict (bookRecord b) emptyBook }
 
--- Any text: refused by its length, or answered by what it is, a book's text or not of the shape. The reading is taken from a proof, the
--- one thing of proofs/ that a definition names: a definition cannot cite a proof of its own crate, which is checked after it. Which
--- reading is taken makes no difference (bookreader/proofs/Answers.antt: `any-reading`).
+-- Any text: refused by its length, or answered by what it is, a book's text or not of the shape. That every text has such a reading is the
+-- theorem `book-reading`, the one thing of proofs/ that a definition names. Which reading it gives makes no difference
+-- (bookreader/proofs/Answers.antt: `any-reading`).
 unfoldable pub readOf : List ℕ → BookRead
 readOf t =
     cond (leb (length t) 4096) (answer WellFormedBook bookText bookAnswer (refusedAnswer Shape) (book-reading t))

@@ -32,4 +32,4 @@ module _ {A : Type 0} (WellFormed : A → Type 0) (text : A → List ℕ) where
   -- what is answered: by the value, or by the place
   unfoldable pub answer : {C : Type 0} {t : List ℕ} → (A → C) → (ℕ → C) → Reading t → C
   answer f g (of-shape a it) = f a
-  answer f g (not-of-shape n none it) = g n
+  answer f g (not-of-shape n no-value it) = g n

@@ -19,7 +19,7 @@ segments-read c = c .before .before .before .before
 segments-requires : tie.Need-segments-requires
 segments-requires c κs =
     let h = c .before .before .bidder in
-    record { within = h .ensures .1; none = no-segments (h .ensures .0 .0) (h .result .bid) (h .ensures .0 .1) }
+    record { within = h .ensures .1; empty = no-segments (h .ensures .0 .0) (h .result .bid) (h .ensures .0 .1) }
 
 returns : tie.Need-returns
 returns c =

@@ -48,7 +48,7 @@ loop-holds c =
     let a = s .args in
     collected-first 40 bid bid-laws bid-open added bidCount (a .text .now) (r .result) (a .from .at) (a .from .stopped) (f .ensures .0 .0)
     (f .result .next .at) (f .result .next .stopped) (s .pre .within) (f .ensures .0 .2)
-    (ap bidCount (r .ensures) ∙ ap (λ (n : ℕ). n + 1) (s .pre .none))
+    (ap bidCount (r .ensures) ∙ ap (λ (n : ℕ). n + 1) (s .pre .empty))
 
 bid-requires-2 : tie.Need-bid-requires-2 Inv-loop μ-loop
 bid-requires-2 c κs = c .before .before .loop .inv .run .within

@@ -12,7 +12,7 @@ use Rattle.booklines.proofs.lines.Tie as tie
 bids-requires : tie.Need-bids-requires
 bids-requires c κs =
     let h = c .before .before .demand in
-    record { within = h .ensures .1; none = no-bids (h .ensures .0 .0) (h .result .book) (h .ensures .0 .1) }
+    record { within = h .ensures .1; empty = no-bids (h .ensures .0 .0) (h .result .book) (h .ensures .0 .1) }
 
 returns : tie.Need-returns
 returns c =

@@ -42,7 +42,7 @@ loop-holds c =
     let a = s .args in
     collected-first 32 segment segment-laws segment-space withSegment segmentCount (a .text .now) (r .result) (a .from .at) (a .from .stopped) (f .result .segment)
     (f .result .next .at) (f .result .next .stopped) (s .pre .within) (f .ensures .0)
-    (ap segmentCount (r .ensures) ∙ ap (λ (n : ℕ). n + 1) (s .pre .none))
+    (ap segmentCount (r .ensures) ∙ ap (λ (n : ℕ). n + 1) (s .pre .empty))
 
 segment-requires-2 : tie.Need-segment-requires-2 Inv-loop μ-loop
 segment-requires-2 c κs = c .before .before .loop .inv .run .within
