@@ -1,4 +1,4 @@
--- Each field is what the function called for it gives.
+-- Each field is that of the bid, or what the function called for it gives, as in the definition.
 use borrow.Author.Needs.{needs}
 use Rattle.award.proofs.Rows.{row-is}
 use Rattle.award.proofs.row_of.Statement.{statement}

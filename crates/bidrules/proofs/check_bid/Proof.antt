@@ -17,18 +17,15 @@ use Rattle.segmentrules.specs.Tests.{askedOf}
 use Rattle.bidrules.proofs.check_bid.Statement.{statement}
 use Rattle.bidrules.proofs.check_bid.Tie as tie
 
--- the states past the tests: the count is in its range, then all numbers are, then the bidder is above the one before
+-- the states at the call, past the test of the count, and past those of all ranges
 abbrev start : tie.Else1 → tie.Start
 start c = c .before .before
 
 abbrev counted : tie.Else3 → tie.Else1
 counted c = c .before .before .before .before
 
-abbrev ranged : tie.Else4 → tie.Else3
-ranged c = c .before .before
-
-abbrev above : tie.Else5 → tie.Else4
-above c = c .before .before
+abbrev ranged : tie.Else5 → tie.Else3
+ranged c = c .before .before .before .before
 
 -- what each test shows
 count-kept : (c : tie.Else1) → within 1 6 (start c .args .bid .count) ≡ true
@@ -47,10 +44,10 @@ range-kept : (c : tie.Else3) → bidInRange (bidEntries (start (counted c) .args
 unfolding bidInRange
 range-kept c = rw (bidder-kept (c .before .before), segments-kept c)
 
-order-kept : (c : tie.Else4) → let a = start (counted (ranged c)) .args in ltb (a .before) (a .bid .bidder) ≡ true
+order-kept : (c : tie.Else4) → let a = start (counted (c .before .before)) .args in ltb (a .before) (a .bid .bidder) ≡ true
 order-kept c = lt-ltb _ _ (c .if4 .left)
 
-rise-kept : (c : tie.Else5) → segmentsRise 0 (bidEntries (start (counted (ranged (above c))) .args .bid) .segments) ≡ true
+rise-kept : (c : tie.Else5) → segmentsRise 0 (bidEntries (start (counted (ranged c)) .args .bid) .segments) ≡ true
 rise-kept c = passed (c .before .segments-rise .ensures) (c .if5 .left)
 
 -- rule 5 asks nothing of a segment before
@@ -86,27 +83,27 @@ returns-5 : tie.Need-returns-5
 unfolding bidVerdict
 returns-5 c =
     let a = c .before .before in
-    let r = ranged a in
+    let r = a .before .before in
     rw (count-kept (counted r), range-kept r, order-kept a, failed (c .before .segments-rise .ensures) (c .if5 .taken))
 
 all-pass-requires-2 : tie.Need-all-pass-requires-2
-all-pass-requires-2 c κs = let r = ranged (above c) in record { held = few (counted r); asked = segments-kept r }
+all-pass-requires-2 c κs = let r = ranged c in record { held = few (counted r); asked = segments-kept r }
 
 returns-6 : tie.Need-returns-6
 unfolding bidVerdict
 returns-6 c =
     let rises = c .before .before in
-    let r = ranged (above rises) in
+    let r = ranged rises in
     let fails = failed (c .before .all-pass2 .ensures) (c .if6 .taken) in
-    rw (count-kept (counted r), range-kept r, order-kept (above rises), rise-kept rises, fails)
+    rw (count-kept (counted r), range-kept r, order-kept (rises .before .before), rise-kept rises, fails)
 
 returns-7 : tie.Need-returns-7
 unfolding bidVerdict
 returns-7 c =
     let rises = c .before .before in
-    let r = ranged (above rises) in
+    let r = ranged rises in
     let passes = passed (c .before .all-pass2 .ensures) (c .if6 .left) in
-    rw (count-kept (counted r), range-kept r, order-kept (above rises), rise-kept rises, passes)
+    rw (count-kept (counted r), range-kept r, order-kept (rises .before .before), rise-kept rises, passes)
 
 pub check-bid-spec : {M : Type 1} → statement M
 check-bid-spec =
@@ -119,7 +116,7 @@ check-bid-spec =
     all-pass-requires
     returns-3
     returns-4
-    (λ c κs. few (counted (ranged c)))
+    (λ c κs. few (counted (c .before .before)))
     returns-5
     all-pass-requires-2
     returns-6

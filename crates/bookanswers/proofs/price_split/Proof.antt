@@ -18,22 +18,20 @@ accepted quantities read = splitOf (bookEntries (read .book)) quantities
 abbrev refused : BookRead → SplitPrice
 refused read = refusedSplit (read .verdict)
 
--- the quantities lent at the call, from where the text is read
-abbrev lent : tie.After-read → List ℕ
-lent c = c .before .before .before .args .quantities .now
-
 returns : tie.Need-returns
 unfolding splitText
 returns c =
     let reads = c .before .before .before in
-    c .refused .ensures ∙ if-refused (λ (r : BookRead). r .verdict) (reads .read .ensures) (c .before .enum-told .given .1) (accepted (lent reads)) refused
+    let quantities = reads .before .before .before .args .quantities .now in
+    c .refused .ensures ∙ if-refused (λ (r : BookRead). r .verdict) (reads .read .ensures) (c .before .enum-told .given .1) (accepted quantities) refused
 
 returns-2 : tie.Need-returns-2
 unfolding splitText
 returns-2 c =
     let told = c .before .before in
     let reads = told .before .before in
-    c .price-split .ensures ∙ if-accepted (λ (r : BookRead). r .verdict) (reads .read .ensures) (told .enum-told2 .given .1) (accepted (lent reads)) refused
+    let quantities = reads .before .before .before .args .quantities .now in
+    c .price-split .ensures ∙ if-accepted (λ (r : BookRead). r .verdict) (reads .read .ensures) (told .enum-told2 .given .1) (accepted quantities) refused
 
 pub price-split-spec : {M : Type 1} → statement M
 price-split-spec =

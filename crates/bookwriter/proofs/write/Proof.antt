@@ -19,35 +19,31 @@ passed c = c .before .before
 
 refused : tie.Need-returns
 refused c =
-    let answer = c .refused in
     let told = c .before .enum-told .given in
     let checked = c .before .before .before in
-    let check = checked .check in
     let a = checked .before .before .args in
-    refused-before (bookVerdict (bookEntries (a .book))) (textOf (a .book)) (a .out .now) (answer .result) (check .result) (answer .ensures)
-    (check .ensures) (told .0 .0) (told .0 .1 .0) (told .1)
+    refused-before (bookVerdict (bookEntries (a .book))) (textOf (a .book)) (a .out .now) (c .refused .result) (checked .check .result)
+    (c .refused .ensures) (checked .check .ensures) (told .0 .0) (told .0 .1 .0) (told .1)
 
 accepted : (c : tie.After-enum-told2) → bookVerdict (bookEntries (start c .args .book)) ≡ Accepted
 accepted c = sym (c .before .before .check .ensures) ∙ c .enum-told2 .given .1
 
 short : tie.Need-returns-2
 short c =
-    let answer = c .too-short in
     let size = c .before .before .before in
     let a = start (passed size) .args in
     too-short (bookVerdict (bookEntries (a .book))) (textOf (a .book)) (a .out .now) (accepted (passed size)) (size .put-book .result)
-    (omega (arith, size .put-book .ensures .0)) (answer .result) (answer .ensures) (omega (arith, c .before .if1 .taken))
+    (omega (arith, size .put-book .ensures .0)) (c .too-short .result) (c .too-short .ensures) (omega (arith, c .before .if1 .taken))
 
 written : tie.Need-returns-3
 written c =
-    let answer = c .whole in
     let again = c .before .before .before in
     let put = again .put-book2 in
     let fits = again .before .before in
     let size = fits .before .before in
     let a = start (passed size) .args in
     in-full (bookVerdict (bookEntries (a .book))) (textOf (a .book)) (a .out .now) (accepted (passed size)) (size .put-book .result)
-    (omega (arith, size .put-book .ensures .0)) (answer .result) (answer .ensures) (fits .if1 .left) (put .last .0)
+    (omega (arith, size .put-book .ensures .0)) (c .whole .result) (c .whole .ensures) (fits .if1 .left) (put .last .0)
     (put .ensures .1 (omega (arith, size .put-book .ensures .0, put .ensures .0, fits .if1 .left)))
 
 pub write-spec : {M : Type 1} → statement M

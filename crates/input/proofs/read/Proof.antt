@@ -1,4 +1,4 @@
--- So many bytes are read that `done` never passes the buffer's length, and each turn that goes on reads at least one.
+-- A read stores no more bytes than the buffer has left, so `done` stays within it; a turn that goes on reads at least one, so the loop ends.
 use Prim.Native.Nat.{_≤_, _-_}
 use mathlib.Core.Path.{_≡_}
 use borrow.Author.Needs.{needs}

@@ -24,24 +24,18 @@ abbrev μ-loop : tie.MeasureT-loop
 abbrev start : tie.At-loop Inv-loop μ-loop → tie.Start Inv-loop μ-loop
 start c = c .before .before
 
--- the turn in which a part is put
-abbrev turn : tie.After-put-part Inv-loop μ-loop → tie.At-loop Inv-loop μ-loop
-turn c = c .before .before .before .before
-
 eight : (c : tie.At-loop Inv-loop μ-loop) → length (start c .args .t3) ≡ 8
 eight c = search (length-held, start c .good)
 
-loop-holds : tie.Need-loop-holds Inv-loop μ-loop
-loop-holds c = (omega arith, omega arith, refl, put-none _ _)
-
 loop-again : tie.Need-loop-again Inv-loop μ-loop
 loop-again c =
-    let p = c .before .before .put-part in
-    let t = turn (c .before .before) in
-    let a = start t .args in
-    let at = t .loop in
+    let put = c .before .before in
+    let turn = put .before .before .before in
+    let a = start (turn .before) .args in
+    let at = turn .before .loop in
+    let p = put .put-part in
     let text = put-next (a .out .now) (a .at) partText (a .t3) (at .i) Nothing (at .out) (at .next) (p .last .0) (p .result) in
-    (omega arith, omega (arith, p .ensures .1), p .kept .0 ∙ at .inv .2, text (omega (arith, eight t)) (at .inv .2) (at .inv .3) (p .ensures .0))
+    (omega arith, omega (arith, p .ensures .1), p .kept .0 ∙ at .inv .2, text (omega (arith, eight (turn .before))) (at .inv .2) (at .inv .3) (p .ensures .0))
 
 returns : tie.Need-returns Inv-loop μ-loop
 returns c =
@@ -56,7 +50,7 @@ put-spec =
     (tie.spec
     Inv-loop
     μ-loop
-    loop-holds
+    (λ c. (omega arith, omega arith, refl, put-none _ _))
     (λ c. search needs) (λ c. search needs) (λ c κs. search needs) (λ c. search needs) (λ c. search needs)
     loop-again
     (λ c. c .before .loop .inv .2)

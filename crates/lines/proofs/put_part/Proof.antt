@@ -5,13 +5,6 @@ use Rattle.printer.proofs.Put.{put-none, put-placed, put-after}
 use Rattle.lines.proofs.put_part.Statement.{statement}
 use Rattle.lines.proofs.put_part.Tie as tie
 
--- past the word before a number, and before a price
-abbrev numbered : tie.After-put-number → tie.After-put2
-numbered c = c .before .before .before .before
-
-abbrev priced : tie.After-put-cents → tie.After-put3
-priced c = c .before .before .before .before
-
 nothing : tie.Need-returns
 nothing c = rw (c .enum-told .given .1) (put-none _ _, omega arith)
 
@@ -23,7 +16,8 @@ fixed c =
 number : tie.Need-returns-3
 number c =
     let n = c .before .before in
-    let w = numbered n in
+    let worded = n .before .before in
+    let w = worded .before .before in
     rw (w .before .before .before .part2 .given .1) (
       put-after _ _ _ _ _ _ _ _ _ (w .put2 .kept .0) (w .put2 .ensures) (n .put-number .ensures .0),
       omega (arith, n .put-number .ensures .1, w .put2 .ensures .1 .1),
@@ -32,7 +26,8 @@ number c =
 price : tie.Need-returns-4
 price c =
     let n = c .before .before in
-    let w = priced n in
+    let worded = n .before .before in
+    let w = worded .before .before in
     rw (w .before .before .before .part3 .given .1) (
       put-after _ _ _ _ _ _ _ _ _ (w .put3 .kept .0) (w .put3 .ensures) (n .put-cents .ensures .0),
       omega (arith, n .put-cents .ensures .1, w .put3 .ensures .1 .1),

@@ -6,16 +6,14 @@ use Rattle.printer.proofs.Written.{part-back}
 use Rattle.printer.proofs.put_number.Statement.{statement}
 use Rattle.printer.proofs.put_number.Tie as tie
 
-abbrev start : tie.After-write-digits → tie.Start
-start c = c .before .before .before .before .before
-
 returns : tie.Need-returns
 returns c = ((omega arith, λ h. absurd (omega arith)), omega arith)
 
 returns-2 : tie.Need-returns-2
 returns-2 c =
     let put = c .before .before in
-    let a = start put .args in
+    let fits = put .before .before in
+    let a = fits .before .before .before .args in
     let d = put .write-digits in
     let w = part-back (a .out .now) (a .at) (digits (a .n)) (d .last .0) (d .result) (omega arith) (d .ensures) in
     ((omega arith, λ h. w .1), omega arith)

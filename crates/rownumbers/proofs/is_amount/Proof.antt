@@ -1,4 +1,4 @@
--- Each arm of the match gives the number of its case.
+-- By cases of the total: each arm gives the number that the definition has for it.
 use borrow.Author.Needs.{needs}
 use Rattle.rownumbers.proofs.is_amount.Statement.{statement}
 use Rattle.rownumbers.proofs.is_amount.Tie as tie

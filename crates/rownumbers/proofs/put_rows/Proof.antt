@@ -23,10 +23,6 @@ abbrev μ-loop : tie.MeasureT-loop
 abbrev start : tie.In-loop Inv-loop μ-loop → tie.Start Inv-loop μ-loop
 start t = t .before .before .before
 
--- the turn in which a row is turned into numbers
-abbrev turn : tie.After-row-numbers Inv-loop μ-loop → tie.In-loop Inv-loop μ-loop
-turn c = c .before .before
-
 eight : (t : tie.In-loop Inv-loop μ-loop) → length (start t .args .t2 .rows) ≡ 8
 eight t = search (length-held, start t .good)
 
@@ -37,13 +33,13 @@ seven : (c : tie.After-row-numbers Inv-loop μ-loop) → length (c .row-numbers 
 seven c = ap length (c .row-numbers .ensures) ∙ row-size _
 
 put-requires : tie.Need-put-requires Inv-loop μ-loop
-put-requires c κs = let numbers = c .before .before in omega (arith, seven numbers, start (turn numbers) .pre .1)
+put-requires c κs = let numbers = c .before .before in omega (arith, seven numbers, start (numbers .before .before) .pre .1)
 
 loop-again : tie.Need-loop-again Inv-loop μ-loop
 loop-again c =
     let put = c .before .before in
     let numbers = put .before .before .before in
-    let t = turn numbers in
+    let t = numbers .before .before in
     let at = t .before .loop in
     let s = start t in
     let award = s .args .t2 in
@@ -71,7 +67,7 @@ put-rows-spec =
     (λ c. omega (arith, start c .pre .0))
     (λ c. omega (arith, start c .pre .0))
     (λ c κs. search needs)
-    (λ c. omega (arith, start (turn (c .before)) .pre .0))
+    (λ c. omega (arith, start (c .before .before .before) .pre .0))
     (λ c. sym (seven (c .before .before)))
     put-requires
     (λ c. search needs) (λ c. search needs)

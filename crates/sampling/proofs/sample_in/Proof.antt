@@ -19,8 +19,8 @@ Inv-loop q bands i₀ i =
 abbrev μ-loop : tie.MeasureT-loop
 μ-loop q bands i₀ i = 16 - i
 
-abbrev start : tie.In-loop Inv-loop μ-loop → tie.Start Inv-loop μ-loop
-start turn = turn .before .before .before
+abbrev start : tie.At-loop Inv-loop μ-loop → tie.Start Inv-loop μ-loop
+start c = c .before .before
 
 returns : tie.Need-returns Inv-loop μ-loop
 unfolding sampleOf
@@ -36,7 +36,7 @@ loop-holds c =
 returns-2 : tie.Need-returns-2 Inv-loop μ-loop
 returns-2 c =
     let turn = c .before .before .before in
-    let a = start turn .args in
+    let a = start (turn .before) .args in
     let at = turn .before .loop in
     let (before, above, left) = at .inv .2 in
     sym (left ∙ scan-stop before (a .q) (a .t1) (at .i) 16 above (turn .loop-test .taken) (at .inv .1) (c .if2 .taken))
@@ -44,7 +44,7 @@ returns-2 c =
 loop-again : tie.Need-loop-again Inv-loop μ-loop
 loop-again c =
     let turn = c .before .before .before in
-    let a = start turn .args in
+    let a = start (turn .before) .args in
     let at = turn .before .loop in
     let (before, above, left) = at .inv .2 in (
       omega arith,
@@ -58,7 +58,7 @@ loop-again c =
 
 returns-3 : tie.Need-returns-3 Inv-loop μ-loop
 returns-3 c =
-    let a = c .before .before .before .args in
+    let a = start (c .before) .args in
     let at = c .before .loop in
     let (before, above, left) = at .inv .2 in
     sym (left ∙ scan-done before (a .q) (a .t1) (at .i) 16 (at .inv .0) (c .loop-test .left))

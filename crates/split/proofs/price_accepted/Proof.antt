@@ -71,9 +71,6 @@ on-offer c =
 small : (c : tie.After-known-told Inv-loop μ-loop) → let t = turn (asked c) in Small (supplyOf (this t)) (quantity t)
 small c = let t = turn (asked c) in supply-small (this t) (this-accepted t .ranges) (quantity t) (on-offer c .0)
 
-loop-holds : tie.Need-loop-holds Inv-loop μ-loop
-loop-holds c = left-all _ _
-
 returns : tie.Need-returns Inv-loop μ-loop
 returns c =
     let t = c .before .before in
@@ -130,7 +127,7 @@ price-accepted-spec =
     (tie.spec
     Inv-loop
     μ-loop
-    loop-holds
+    (λ c. left-all _ _)
     (λ c κs. omega (arith, few (c .before .before)))
     returns
     (λ c. omega (arith, few (c .before .before)))

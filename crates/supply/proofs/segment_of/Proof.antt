@@ -1,4 +1,4 @@
--- Number 0 is segment 0, and the others are those of the record, one further.
+-- The supply function is segment 0 and then the bid's segments, so a number above 0 is that of the record's segment one before.
 use Prim.Native.Nat.{_<_}
 use mathlib.Core.Path.{_≡_}
 use native.Mathlib.Omega.{arith}

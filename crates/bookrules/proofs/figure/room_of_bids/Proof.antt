@@ -1,4 +1,4 @@
--- The bids passed have been added up, and the sum stays small, since each has at most six segments.
+-- The bids before `i` are added up, and the sum stays small, since each has at most six segments.
 use Prim.Native.Nat.{ℕ, _+_, _*_, _≤_, _<_, _-_}
 use mathlib.Core.List.{List}
 use native.Mathlib.Nat.{zero-add}

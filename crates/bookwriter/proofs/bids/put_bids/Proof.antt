@@ -42,13 +42,8 @@ this-bid c =
     let s = start (c .before) in
     bid-at (s .args .t3) (s .pre .accepted) (eight (c .before)) (c .before .loop .i) (c .loop-test .taken)
 
-loop-holds : tie.Need-loop-holds Inv-loop μ-loop
-loop-holds c = (omega arith, omega arith, refl, put-none _ _)
-
 put-bid-requires : tie.Need-put-bid-requires Inv-loop μ-loop
-put-bid-requires c κs =
-    let turn = c .before .before in
-    record { held = this-bid turn .count-high; place = omega (arith, few (turn .before)) }
+put-bid-requires c κs = record { held = this-bid (c .before .before) .count-high; place = omega (arith, few (c .before .before .before)) }
 
 loop-again : tie.Need-loop-again Inv-loop μ-loop
 loop-again c =
@@ -73,9 +68,8 @@ put-bids-spec =
     (tie.spec
     Inv-loop
     μ-loop
-    loop-holds
-    (λ c. omega (arith, few (c .before)))
-    (λ c. omega (arith, few (c .before)))
+    (λ c. (omega arith, omega arith, refl, put-none _ _))
+    (λ c. omega (arith, few (c .before))) (λ c. omega (arith, few (c .before)))
     put-bid-requires
     (λ c. omega (arith, few (turn c)))
     (λ c. search needs)

@@ -26,9 +26,6 @@ start c = c .before .before
 six : (c : tie.At-loop Inv-loop μ-loop) → length (start c .args .t3 .segments) ≡ 6
 six c = search (length-held, start c .good)
 
-loop-holds : tie.Need-loop-holds Inv-loop μ-loop
-loop-holds c = (omega arith, omega arith, refl, put-none _ _)
-
 loop-again : tie.Need-loop-again Inv-loop μ-loop
 loop-again c =
     let put = c .before .before in
@@ -55,7 +52,7 @@ put-segments-spec =
     (tie.spec
     Inv-loop
     μ-loop
-    loop-holds
+    (λ c. (omega arith, omega arith, refl, put-none _ _))
     (λ c. search needs) (λ c. search needs) (λ c κs. search needs) (λ c κs. search needs) (λ c. search needs) (λ c. search needs)
     loop-again
     (λ c. c .before .loop .inv .2)

@@ -16,14 +16,11 @@ use Rattle.printer.proofs.cents.put_cents.Tie as tie
 fits : (c : tie.After-struct-told) → SFits w64 (c .before .before .before .args .price .0)
 fits c = search needs
 
--- past the sign, from where the digits are put
-abbrev signed : tie.After-put-number → tie.After-put-word
-signed c = c .before .before .before .before .before
-
 below-zero : tie.Need-returns
 below-zero c =
     let n = c .before .before in
-    let w = signed n in
+    let signed = n .before .before .before in
+    let w = signed .before .before in
     let t = w .before .before .before in
     let same = negative-digits _ (fits (t .before)) (t .if1 .taken) ∙ ap (λ (k : ℕ). ascii "-" ++ digits k) (sym (n .before .magnitude .ensures)) in (
       put-as _ _ _ _ _ _ (sym same) (put-after _ _ _ _ _ _ _ _ _ (w .put-word .kept .0) (w .put-word .ensures) (n .put-number .ensures .0)),
