@@ -1,11 +1,12 @@
 # That the pages quote and cite what is there, and that the files keep three rules. Run from the repository's top (tests/docs/run does).
-# Eight kinds of check, the last three of the files:
+# Nine kinds of check, the last three of the files:
 #   page   docs/STATEMENTS.md is what tests/docs/statements.py makes, and no other page quotes a file in a fenced block
 #   path   a file, folder or heading that a page cites exists
 #   name   a name cited together with a file is declared in it
 #   edit   CLAIMS.md cites no must-fail edit that is not there, and its list of them is the one that tests/docs/edits.py makes; each edit
 #          says what it does and which function's contract it guards; every public function of a library is guarded by two or more, where
 #          those of crates below count, and every entry that README.md lists by one or more of its own crate
+#   asks   CLAIMS.md lists every public function of a library that has a `requires`, and no other; no entry of README.md has one
 #   crate  ARCHITECTURE.md names every crate of crates.txt, and its table of groups no other
 #   layer  what is to be believed names nothing of proofs/: no definition of specs/ and no contract of src/, but for the exceptions below
 #   proof  a Proof.antt begins with a comment, which says why the function meets its contract
@@ -259,6 +260,38 @@ def check_edits():
     check(read(CLAIMS) == edits.page(), CLAIMS, "its list of edits is not that of the files: python3 tests/docs/edits.py makes it")
 
 
+# ---- what is asked of a caller
+
+
+def asking(crate):
+    """The public functions of a library that have a `requires`."""
+    files = glob.glob(f"crates/{crate}/src/**/*.rt", recursive=True)
+    heads = [head for path in files for head in re.findall(r"^pub (?:extern \"C\" )?fn .*?^\{", uncommented(path), re.S | re.M)]
+    return [name for head in heads if "requires" in head for name in re.findall(r"fn (\w+)", head)[:1] if name in edits.public(crate)]
+
+
+def listed_asking():
+    """The first column of the table `Function`, `What it asks`; a name without a crate is of the crate before it."""
+    inside = False
+    for _, line in parts(CLAIMS)[1]:
+        cells = [cell.strip() for cell in line.strip("|").split("|")]
+        inside = line.startswith("|") and (inside or cells[:2] == ["Function", "What it asks"])
+        crate = ""
+        for name in re.findall(r"`([^`]+)`", cells[0] if inside else ""):
+            crate = name.split("::")[0] if "::" in name else crate
+            yield f"{crate}::{name.split('::')[-1]}"
+
+
+def check_asks():
+    there = {f"{crate}::{name}" for crate in edits.crates() for name in asking(crate)}
+    listed = set(listed_asking())
+    for name in sorted(there | listed):
+        check(name in listed, CLAIMS, f"{name} asks something of its caller, and the table does not say it")
+        check(name in there, CLAIMS, f"{name} asks nothing of its caller")
+    for entry in listed_entries():
+        check(entry not in there, "README.md", f"the entry {entry} asks something of its caller")
+
+
 # ---- crates
 
 ARCHITECTURE = "docs/ARCHITECTURE.md"
@@ -368,6 +401,7 @@ def main():
     for page in NOTES:
         check_paths(page, ("docs/", "tests/"))
     check_edits()
+    check_asks()
     check_crates()
     check_layers()
     check_proofs()
