@@ -1,17 +1,19 @@
 -- By which rules, and on which lines, a record can be refused: what holds of every check holds of the first fault. Assumes nothing.
 use Prim.Native.Nat.{ℕ, _+_, _≤_}
 use native.Mathlib.Omega.{arith}
+use mathlib.Core.Bool.{true}
 use mathlib.Core.List.{List, [], _∷_}
 use mathlib.Core.Path.{_≡_, subst}
 use lib.Dec.{leb, ltb}
 use lib.ListN.{length}
 use Rattle.lists.specs.All.{All}
 use Rattle.lists.specs.Every.{every}
+use Rattle.lists.proofs.All.{all-tested}
 use Rattle.refusal.specs.Checks.{unless}
 use Rattle.refusal.specs.declared.Rule.{Rule}
 use Rattle.refusal.specs.declared.Rule.the-variants.{BidCount, SegmentCount, Range, BidderOrder, SegmentOrder, NegativePrice}
 use Rattle.refusal.specs.declared.Verdict.the-variants.{Refused}
-use Rattle.refusal.proofs.Refusals.{RefusedBy, by-first, by-unless}
+use Rattle.refusal.proofs.Refusals.{RefusedBy, by-first, by-unless, isOther, Other, never-other}
 use Rattle.book.specs.Entries.{BidEntries, BookEntries}
 use Rattle.book.specs.Rules.{within, bidInRange, segmentsRise, startNotNegative, bidVerdict, bidsVerdict, bookVerdict}
 
@@ -82,6 +84,14 @@ pub record-rule : (P : Rule → Type 0) → All P recordRules → (b : BookEntri
 record-rule P each b rule line e =
     let most : ℕ = 10 + length (b .bids) in
     subst (RefusedBy (Named P each most)) e (by-book P each most b (omega arith) (omega arith)) .0
+
+-- so a rule that is none of them refuses no record
+module _ (this : Rule) (others : every (isOther this) recordRules ≡ true) (b : BookEntries) where
+  pub by-other : (rule : Rule) (line : ℕ) → bookVerdict b ≡ Refused rule line → Other this rule
+  by-other = record-rule (Other this) (all-tested (isOther this) recordRules others) b
+
+  pub never-by : (line : ℕ) → bookVerdict b ≡ Refused this line → ⊥
+  never-by line e = never-other this (by-other this line e)
 
 -- and of a record, which holds at most eight bids, the line is at most 10
 pub record-line : (b : BookEntries) (rule : Rule) (line : ℕ) → length (b .bids) ≤ 8 → bookVerdict b ≡ Refused rule line → line ≤ 10

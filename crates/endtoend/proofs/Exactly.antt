@@ -8,15 +8,15 @@ use mathlib.Core.Logic.{_↔_}
 use mathlib.Core.Path.{_≡_, refl, sym, ap, _∙_, subst}
 use borrow.Author.Tests.{leb-true, le-leb}
 use lib.Dec.{leb}
+use Rattle.lists.specs.Every.{every}
 use Rattle.refusal.specs.Checks.{unless, firstOf}
 use Rattle.refusal.specs.Number.{numberOf}
 use Rattle.refusal.specs.declared.Rule.the-variants.{NotCovered, OutputLength}
 use Rattle.refusal.specs.declared.Verdict.{Verdict}
 use Rattle.refusal.specs.declared.Verdict.the-variants.{Accepted, Refused}
 use Rattle.refusal.proofs.Firsts.{refused-not}
-use Rattle.refusal.proofs.Refusals.{Other, never-other}
 use Rattle.book.specs.Entries.{BookEntries, bookEntries}
-use Rattle.book.proofs.Refusals.{record-rule}
+use Rattle.book.proofs.Refusals.{never-by}
 use Rattle.booktext.specs.Record.{bookRecord}
 use Rattle.output.specs.declared.TextWritten.{TextWritten}
 use Rattle.awardtheorems.specs.Awarded.{awarded}
@@ -31,6 +31,7 @@ use Rattle.endtoend.proofs.Given.{same-book, covered, uncovered}
 module _ (t : List ℕ) where
   -- refusal 9 is the outcome of a book without a division, and of nothing else
   its-nine : clearText t .verdict ≡ Refused NotCovered 0 → (b : BookEntries) × UncoveredText t b
+  unfolding every
   its-nine e = go (whole t [])
     where
       nine : sheetWritten t 0 .verdict ≡ Refused NotCovered 0
@@ -42,15 +43,13 @@ module _ (t : List ℕ) where
       go : Outcome t [] → (b : BookEntries) × UncoveredText t b
       go (too-long h f) = absurd (omega (arith, ap numberOf (told (f .0))))
       go (not-of-shape place h f) = absurd (omega (arith, ap numberOf (told (f .0))))
-      go (broken b says rule line g f) =
-          absurd (never-other NotCovered
-          (record-rule (Other NotCovered) (refl, (refl, (refl, (refl, (refl, (refl, tt)))))) (bookEntries (bookRecord b)) NotCovered 0 (g ∙ told (f .0))))
-      go (not-covered b is none f) = (b, (is, none))
+      go (broken b says rule line g f) = absurd (never-by NotCovered refl (bookEntries (bookRecord b)) 0 (g ∙ told (f .0)))
+      go (not-covered b is no-division f) = (b, (is, no-division))
       go (output-short b is a award h f) = absurd (omega (arith, ap numberOf (told (f .0))))
       go (sheet b is a award h f) = absurd (omega (arith, ap numberOf (told (f .0))))
 
   pub nine-iff : (clearText t .verdict ≡ Refused NotCovered 0) ↔ ((b : BookEntries) × UncoveredText t b)
-  nine-iff = (its-nine, λ (b, (is, none)). uncovered t b is none)
+  nine-iff = (its-nine, λ (b, (is, no-division)). uncovered t b is no-division)
 
   -- what was read is a book with the division that the award is
   its-book : clearText t .verdict ≡ Accepted → CoveredText t (bookOf t)

@@ -6,6 +6,7 @@ use mathlib.Core.List.{List, map}
 use mathlib.Core.Option.{Option, some, none}
 use mathlib.Core.Path.{_≡_, refl, sym, subst}
 use lib.ListN.{length, take, length-map}
+use Rattle.lists.specs.Every.{every}
 use Rattle.lists.proofs.Padded.{length-padded}
 use Rattle.lists.proofs.Slices.{take-most}
 use Rattle.refusal.specs.declared.Rule.{Rule}
@@ -15,7 +16,7 @@ use Rattle.refusal.specs.declared.Verdict.the-variants.{Accepted, Refused}
 use Rattle.refusal.proofs.Refusals.{RefusedBy, Other}
 use Rattle.book.specs.Entries.{BookEntries, bidEntries, bookEntries}
 use Rattle.book.specs.Rules.{bookVerdict}
-use Rattle.book.proofs.Refusals.{record-rule, record-line}
+use Rattle.book.proofs.Refusals.{by-other, record-line}
 use Rattle.forms.specs.Shape.{of-shape, not-of-shape, answer}
 use Rattle.booktext.specs.Record.{emptyBid, bidRecord, bookRecord}
 use Rattle.bookreader.specs.declared.BookRead.{BookRead}
@@ -43,13 +44,14 @@ few-bids b =
     omega (arith, length-map (take (b .count) bids) bidEntries, take-most (b .count) bids .1, length-padded 8 emptyBid (map bidRecord (b .bids)))
 
 book-before : (b : BookEntries) → BeforeOutput (bookVerdict (bookEntries (bookRecord b)))
+unfolding every
 book-before b = go (bookVerdict (bookEntries (bookRecord b))) refl
   where
     go : (v : Verdict) → bookVerdict (bookEntries (bookRecord b)) ≡ v → BeforeOutput v
     go Accepted e = tt
     go (Refused rule line) e =
         let record-of = bookEntries (bookRecord b) in (
-          record-rule (Other OutputLength) (refl, (refl, (refl, (refl, (refl, (refl, tt)))))) record-of rule line e,
+          by-other OutputLength refl record-of rule line e,
           omega (arith, record-line record-of rule line (few-bids b) e),
         )
 

@@ -1,8 +1,8 @@
 -- What holds of every check of a list holds of the refusal that the list gives, whatever the order and the numbers of the rules. Assumes nothing.
 use Prim.Native.Nat.{ℕ}
-use mathlib.Core.Bool.{Bool, true, false, true≢false}
+use mathlib.Core.Bool.{Bool, true, false, not, true≢false}
 use mathlib.Core.List.{List, [], _∷_}
-use mathlib.Core.Path.{_≡_, refl, sym, _∙_}
+use mathlib.Core.Path.{_≡_, refl, sym, ap, _∙_}
 use borrow.Author.Tests.{eq-eqb}
 use lib.Dec.{eqb}
 use Rattle.lists.specs.All.{All}
@@ -27,9 +27,12 @@ module _ (P : Rule → ℕ → Type 0) where
   by-unless true rule place h = tt
   by-unless false rule place h = h
 
--- another rule than this one; of two rules by name it is `refl`
+-- another rule than this one
+abbrev pub isOther : Rule → Rule → Bool
+isOther this rule = not (eqb (ruleNumber rule) (ruleNumber this))
+
 abbrev pub Other : Rule → Rule → Type 0
-Other this rule = eqb (ruleNumber rule) (ruleNumber this) ≡ false
+Other this rule = isOther this rule ≡ true
 
 pub never-other : (rule : Rule) → Other rule rule → ⊥
-never-other rule e = true≢false (sym (eq-eqb (ruleNumber rule) (ruleNumber rule) refl) ∙ e)
+never-other rule e = true≢false (sym e ∙ ap not (eq-eqb (ruleNumber rule) (ruleNumber rule) refl))

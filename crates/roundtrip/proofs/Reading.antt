@@ -13,8 +13,8 @@ use Rattle.refusal.specs.declared.Verdict.the-variants.{Accepted, Refused}
 use Rattle.refusal.proofs.Firsts.{refused-not}
 use Rattle.book.specs.Entries.{BookEntries, bookEntries}
 use Rattle.book.specs.Rules.{bookVerdict}
-use Rattle.refusal.proofs.Refusals.{Other, never-other}
-use Rattle.book.proofs.Refusals.{record-rule}
+use Rattle.lists.specs.Every.{every}
+use Rattle.book.proofs.Refusals.{never-by}
 use Rattle.forms.specs.Shape.{TextOf, Begins, Longest, Reading, of-shape, not-of-shape, answer}
 use Rattle.forms.proofs.Whole.{one-meaning}
 use Rattle.booktext.specs.BookText.{bookText}
@@ -59,7 +59,8 @@ accepted-as t e = go (read-answered t)
 
 -- no rule for a record is the rule for a text's shape
 not-shape : (b : BookEntries) (n : ℕ) → bookVerdict b ≡ Refused Shape n → ⊥
-not-shape b n e = never-other Shape (record-rule (Other Shape) (refl, (refl, (refl, (refl, (refl, (refl, tt)))))) b Shape n e)
+unfolding every
+not-shape b n e = never-by Shape refl b n e
 
 pub refused-place : (t : List ℕ) (n : ℕ) → readOf t .verdict ≡ Refused Shape n → NotOfShape t n
 unfolding answer bookAnswer
