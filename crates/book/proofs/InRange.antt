@@ -1,5 +1,5 @@
 -- What rule 5 tells of a segment, and that its prices then fit. Assumes nothing.
-use Prim.Native.Nat.{ℕ, _*_, _^_, _≤_, _<_}
+use Prim.Native.Nat.{ℕ, _*_, _≤_}
 use native.Mathlib.Nat.{mul-le-mul}
 use native.Mathlib.Omega.{arith}
 use mathlib.Core.Bool.{true, _&&_}
@@ -8,9 +8,8 @@ use borrow.Author.Tests.{leb-true}
 use lib.Dec.{leb}
 use lib.IntN.{pos, negℤ, natAbs}
 use lib.Signed.{leZ}
-use mir.Syntax.{w64}
-use mir.Val.{SFits}
 use Rattle.lists.proofs.Tests.{both-left, both-right}
+use Rattle.money.specs.Price.{PriceFits}
 use Rattle.money.proofs.Bounds.{price-size, small-fits, between-size}
 use Rattle.book.specs.declared.Segment.{Segment}
 use Rattle.book.specs.Rules.{within, segmentInRange, priceOn}
@@ -66,5 +65,5 @@ module _ (s : Segment) (r : ℕ) (unit-high : s .unit .0 ≤ 1000000) (fixed-siz
   price-small = omega (arith, price-size (s .unit .0) r (s .fixed .0), product-small, fixed-size)
 
   -- what the price rule asks
-  pub price-fits : (s .unit .0 * r < 2 ^ 63) × SFits w64 (priceOn s r)
-  price-fits = (omega (arith, product-small), small-fits _ (omega (arith, price-small)))
+  pub price-fits : PriceFits (s .unit .0) r (s .fixed .0)
+  price-fits = record { product = omega (arith, product-small); price = small-fits _ (omega (arith, price-small)) }

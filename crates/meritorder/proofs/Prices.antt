@@ -1,11 +1,12 @@
 -- On a segment of a sound choice a price fits, and so does the fixed price. Assumes nothing.
-use Prim.Native.Nat.{ℕ, _*_, _^_, _≤_, _<_}
+use Prim.Native.Nat.{ℕ, _≤_}
 use native.Mathlib.Omega.{arith}
 use mathlib.Core.Path.{_≡_}
 use lib.IntN.{natAbs}
 use mir.Syntax.{w64}
-use mir.Val.{SFits, toZ, ofZ}
+use mir.Val.{toZ, ofZ}
 use mir.ValLaws.{toZ-ofZ}
+use Rattle.money.specs.Price.{PriceFits}
 use Rattle.money.proofs.Bounds.{small-fits}
 use Rattle.book.specs.declared.Segment.{Segment}
 use Rattle.book.specs.Rules.{priceOn}
@@ -20,7 +21,7 @@ module _ (s : Segment) (r : ℕ) (sound : SoundSegment s) (within : r ≤ s .end
   price-small = range.price-small s r (sound .unit-high) (sound .fixed-size) few
 
   -- what the price rule asks
-  pub price-fits : (s .unit .0 * r < 2 ^ 63) × SFits w64 (priceOn s r)
+  pub price-fits : PriceFits (s .unit .0) r (s .fixed .0)
   price-fits = range.price-fits s r (sound .unit-high) (sound .fixed-size) few
 
 -- a column keeps it by its bits

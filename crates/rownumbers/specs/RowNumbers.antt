@@ -36,5 +36,6 @@ unfoldable pub awardNumbers : Award → List ℕ
 awardNumbers award = joined rowNumbers (take (award .count) (award .rows))
 
 -- what `put_rows` asks: the record holds each row that it counts, and the list is as long as the numbers of all
-abbrev pub RowsFit : Award → List ℕ → Type 0
-RowsFit award rows = (award .count ≤ 8) × (7 * award .count ≤ length rows)
+pub record RowsFit (award : Award) (rows : List ℕ) : Type 0 where
+  pub held : award .count ≤ 8
+  pub fits : 7 * award .count ≤ length rows

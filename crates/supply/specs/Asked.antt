@@ -8,9 +8,11 @@ use Rattle.book.specs.Entries.{bidEntries}
 use Rattle.book.specs.Rules.{segmentInRange}
 
 -- the record holds each segment that the bid counts, and the number is 0 or that of one of them
-abbrev pub HasSegment : Bid → ℕ → Type 0
-HasSegment bid number = (bid .count ≤ 6) × (number ≤ bid .count)
+pub record HasSegment (bid : Bid) (number : ℕ) : Type 0 where
+  pub held : bid .count ≤ 6
+  pub within : number ≤ bid .count
 
 -- the record holds each segment that the bid counts, and each is in range, so that every price fits
-abbrev pub Priceable : Bid → Type 0
-Priceable bid = (bid .count ≤ 6) × (every segmentInRange (bidEntries bid .segments) ≡ true)
+pub record Priceable (bid : Bid) : Type 0 where
+  pub held : bid .count ≤ 6
+  pub ranges : every segmentInRange (bidEntries bid .segments) ≡ true

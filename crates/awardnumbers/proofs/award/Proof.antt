@@ -51,6 +51,6 @@ award-spec =
     (λ c. omega (arith, few-rows (c .before .before)))
     (λ c κs. search needs)
     returns-2
-    (λ c κs. (few-rows (c .before .before .before), c .before .if1 .left))
+    (λ c κs. record { held = few-rows (c .before .before .before); fits = c .before .if1 .left })
     (λ c κs. search needs) (λ c. search needs)
     returns-3)

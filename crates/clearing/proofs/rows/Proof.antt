@@ -50,7 +50,7 @@ total-without-requires : tie.Need-total-without-requires Inv-loop μ-loop
 total-without-requires c κs = record { accepted = start (c .before .before) .pre; within = omega arith }
 
 row-of-requires : tie.Need-row-of-requires Inv-loop μ-loop
-row-of-requires c κs = let kept = this-accepted (turn c) in (kept .count-high, kept .ranges)
+row-of-requires c κs = let kept = this-accepted (turn c) in record { held = kept .count-high; ranges = kept .ranges }
 
 loop-again : tie.Need-loop-again Inv-loop μ-loop
 loop-again c =

@@ -33,7 +33,7 @@ seven : (c : tie.After-row-numbers Inv-loop μ-loop) → length (c .row-numbers 
 seven c = ap length (c .row-numbers .ensures) ∙ row-size _
 
 put-requires : tie.Need-put-requires Inv-loop μ-loop
-put-requires c κs = let numbers = c .before .before in omega (arith, seven numbers, start (numbers .before .before) .pre .1)
+put-requires c κs = let numbers = c .before .before in omega (arith, seven numbers, start (numbers .before .before) .pre .fits)
 
 loop-again : tie.Need-loop-again Inv-loop μ-loop
 loop-again c =
@@ -43,11 +43,11 @@ loop-again c =
     let at = t .before .loop in
     let s = start t in
     let award = s .args .t2 in
-    let held : award .count ≤ length (award .rows) = omega (arith, eight t, s .pre .0) in
+    let held : award .count ≤ length (award .rows) = omega (arith, eight t, s .pre .held) in
     let within : at .i + 1 ≤ award .count = omega (arith, t .loop-test .taken) in
     let this = rw (numbers .row-numbers .ensures) at (put .put .ensures) in
     let next = next-row (s .args .rows .now) (award .rows) (at .i) (award .count) _ (at .rows) (put .put .last .0) in
-    (within, put .put .kept .0 ∙ at .inv .1, next (t .loop-test .taken) held (s .pre .1) (at .inv .2) this)
+    (within, put .put .kept .0 ∙ at .inv .1, next (t .loop-test .taken) held (s .pre .fits) (at .inv .2) this)
 
 returns : tie.Need-returns Inv-loop μ-loop
 unfolding awardNumbers
@@ -64,10 +64,10 @@ put-rows-spec =
     Inv-loop
     μ-loop
     loop-holds
-    (λ c. omega (arith, start c .pre .0))
-    (λ c. omega (arith, start c .pre .0))
+    (λ c. omega (arith, start c .pre .held))
+    (λ c. omega (arith, start c .pre .held))
     (λ c κs. search needs)
-    (λ c. omega (arith, start (c .before .before .before) .pre .0))
+    (λ c. omega (arith, start (c .before .before .before) .pre .held))
     (λ c. sym (seven (c .before .before)))
     put-requires
     (λ c. search needs) (λ c. search needs)

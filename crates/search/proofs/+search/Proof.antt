@@ -150,7 +150,8 @@ search-sub-j : (t : ℕ) → search-lts.Need-sub-j (R t) (search-at t) search′
 search-sub-j t c = search needs
 
 search-segment-of-requires : (t : ℕ) → search-lts.Need-segment-of-requires (R t) (search-at t) search′.Post search-Inv-loop search-μ-loop
-search-segment-of-requires t c κs = (this t (start t (c .before .before)) .count-high, omega (arith, c .before .loop .inv .0))
+search-segment-of-requires t c κs =
+    record { held = this t (start t (c .before .before)) .count-high; within = omega (arith, c .before .loop .inv .0) }
 
 search-choose-requires : (t : ℕ) → search-lts.Need-choose-requires (R t) (search-at t) search′.Post search-Inv-loop search-μ-loop
 search-choose-requires t c κs =

@@ -75,7 +75,7 @@ loop-holds c =
     (omega arith, kept-none _ _ (held s), each-none _ (supplyOf (bidEntries b)) _ (b .count + 1) (few-segments b))
 
 segment-of-requires : tie.Need-segment-of-requires Inv-loop μ-loop
-segment-of-requires c κs = (c .before .before .before .pre .bid .count-high, omega (arith, c .before .loop .inv .0))
+segment-of-requires c κs = record { held = c .before .before .before .pre .bid .count-high; within = omega (arith, c .before .loop .inv .0) }
 
 leaf-requires : tie.Need-leaf-requires Inv-loop μ-loop
 leaf-requires c κs =

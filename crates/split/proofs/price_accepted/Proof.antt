@@ -78,7 +78,7 @@ returns c =
     c .refused-at .ensures ∙ missing (at .loop .inv) (start at .pre) (t .loop-test .taken) (held at) (c .before .if1 .taken)
 
 price-at-requires : tie.Need-price-at-requires Inv-loop μ-loop
-price-at-requires c κs = let kept = this-accepted (c .before .before .before) in (kept .count-high, kept .ranges)
+price-at-requires c κs = let kept = this-accepted (c .before .before .before) in record { held = kept .count-high; ranges = kept .ranges }
 
 returns-2 : tie.Need-returns-2 Inv-loop μ-loop
 returns-2 c =

@@ -49,7 +49,8 @@ find-spec =
     Inv-loop
     μ-loop
     (λ c. (omega arith, below-none _))
-    (λ c κs. search needs) (λ c κs. search needs)
+    (λ c κs. record { held = c .before .before .before .pre; within = omega arith })
+    (λ c κs. search needs)
     returns
     (λ c. search needs) (λ c. search needs)
     loop-again

@@ -28,15 +28,15 @@ returns c = sym (offer-nowhere _ _ (rw (c .enum-told .given .1) at (c .before .b
 segment-of-requires : tie.Need-segment-of-requires
 segment-of-requires c κs =
     let b = start c .args .bid in
-    (search needs, omega (arith, number-counted (b .segments) (b .count) _ (first c .there)))
+    record { held = start c .pre .held; within = omega (arith, number-counted (b .segments) (b .count) _ (first c .there)) }
 
 price-requires : tie.Need-price-requires
 price-requires c κs =
     let told = c .before .before .before in
     let s = start told in
     let there = c .before .before .segment-of in
-    let range : Limits (there .result) = rw (there .ensures .1) (limits (bidEntries (s .args .bid)) (s .pre .1) _ (there .ensures .0)) in
-    price-fits (there .result) _ (range .unit-high) (range .fixed-size) (found-small (bidEntries (s .args .bid)) (s .pre .1) _ _ (first told))
+    let range : Limits (there .result) = rw (there .ensures .1) (limits (bidEntries (s .args .bid)) (s .pre .ranges) _ (there .ensures .0)) in
+    price-fits (there .result) _ (range .unit-high) (range .fixed-size) (found-small (bidEntries (s .args .bid)) (s .pre .ranges) _ _ (first told))
 
 returns-2 : tie.Need-returns-2
 returns-2 c =
