@@ -1,9 +1,6 @@
 -- By whether `-` is the next byte: a negative number from 1 on, or one without a sign. Assumes nothing.
 use native.Mathlib.Omega.{arith}
-use mathlib.Core.Path.{sym, _∙_, subst}
-use lib.IntN.{ℤ}
-use Rattle.forms.specs.Signed.{signed}
-use Rattle.forms.specs.Place.{Reads}
+use mathlib.Core.Path.{sym, _∙_}
 use Rattle.numerals.proofs.Integers.{begins-within, signed-minus, signed-plain}
 use Rattle.numerals.proofs.Negatives.{minus-kept, plus-kept}
 use borrow.Author.Needs.{needs}
@@ -25,11 +22,10 @@ returns c =
     let read = c .before .before in
     let seen = read .before .before in
     let a = start seen .args in
-    let n = read .number in (
-      subst (λ (z : ℤ). Reads signed (a .text .now) (a .from .at) (a .from .stopped) z (n .result .next .at) (n .result .next .stopped))
-          (sym (minus-kept (n .result .value) (n .ensures .0) (c .minus .result) (c .minus .ensures)))
-          (signed-minus (a .text .now) (a .from .at) (a .from .stopped) (n .result .value) (n .result .next .at) (n .result .next .stopped)
-          (sym (seen .begins .ensures) ∙ read .before .if1 .taken) (n .ensures .1 .0)),
+    let n = read .number in
+    let kept = minus-kept (n .result .value) (n .ensures .0) (c .minus .result) (c .minus .ensures) in (
+      signed-minus (a .text .now) (a .from .at) (a .from .stopped) (n .result .value) (n .result .next .at) (n .result .next .stopped) _ kept
+          (sym (seen .begins .ensures) ∙ read .before .if1 .taken) (n .ensures .1 .0),
       n .ensures .1 .1,
     )
 
@@ -38,11 +34,10 @@ returns-2 c =
     let read = c .before .before in
     let seen = read .before .before in
     let a = start seen .args in
-    let n = read .number2 in (
-      subst (λ (z : ℤ). Reads signed (a .text .now) (a .from .at) (a .from .stopped) z (n .result .next .at) (n .result .next .stopped))
-          (sym (plus-kept (n .result .value) (n .ensures .0) (c .plus .result) (c .plus .ensures)))
-          (signed-plain (a .text .now) (a .from .at) (a .from .stopped) (n .result .value) (n .result .next .at) (n .result .next .stopped)
-          (sym (seen .begins .ensures) ∙ read .before .if1 .left) (n .ensures .1 .0)),
+    let n = read .number2 in
+    let kept = plus-kept (n .result .value) (n .ensures .0) (c .plus .result) (c .plus .ensures) in (
+      signed-plain (a .text .now) (a .from .at) (a .from .stopped) (n .result .value) (n .result .next .at) (n .result .next .stopped) _ kept
+          (sym (seen .begins .ensures) ∙ read .before .if1 .left) (n .ensures .1 .0),
       n .ensures .1 .1,
     )
 
