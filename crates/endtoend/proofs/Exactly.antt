@@ -14,7 +14,7 @@ use Rattle.refusal.specs.Number.{numberOf}
 use Rattle.refusal.specs.declared.Rule.the-variants.{NotCovered, OutputLength}
 use Rattle.refusal.specs.declared.Verdict.{Verdict}
 use Rattle.refusal.specs.declared.Verdict.the-variants.{Accepted, Refused}
-use Rattle.refusal.proofs.Firsts.{refused-not}
+use Rattle.refusal.proofs.Firsts.{all-passed, test-holds}
 use Rattle.book.specs.Entries.{BookEntries, bookEntries}
 use Rattle.book.proofs.Refusals.{never-by}
 use Rattle.booktext.specs.Record.{bookRecord}
@@ -63,6 +63,7 @@ module _ (t : List ℕ) (size : ℕ) where
   abbrev count : ℕ
   count = clearText t .award .count
 
+  -- 9 comes from clearing: the list's length gives 10 alone
   cleared-first : (v w : Verdict) → numberOf w ≡ 9 → (fits : Bool) → firstOf (v ∷ unless fits OutputLength (56 * count) ∷ []) ≡ w → v ≡ w
   cleared-first (Refused rule place) w h fits e = e
   cleared-first Accepted w h true e = absurd (omega (arith, ap numberOf e))
@@ -75,19 +76,16 @@ module _ (t : List ℕ) (size : ℕ) where
     λ h. let nine = nine-iff t .1 h in rw nine,
   )
 
-  both-pass : (v : Verdict) (fits : Bool) → firstOf (v ∷ unless fits OutputLength (56 * count) ∷ []) ≡ Accepted → (v ≡ Accepted) × (fits ≡ true)
-  both-pass (Refused rule place) fits e = refused-not e
-  both-pass Accepted true e = (refl, refl)
-  both-pass Accepted false e = refused-not e
-
   pub numbers-award-iff : (awardVerdict t size ≡ Accepted) ↔ ((b : BookEntries) × CoveredText t b × (7 * b .count ≤ size))
   unfolding awardVerdict
   numbers-award-iff = (to, from)
     where
       to : awardVerdict t size ≡ Accepted → (b : BookEntries) × CoveredText t b × (7 * b .count ≤ size)
       to e =
-          let (accepted, fits) = both-pass (clearText t .verdict) (leb (7 * count) size) e in
-          (bookOf t, its-book t accepted, subst (λ (n : ℕ). 7 * n ≤ size) (its-award t accepted .count) (leb-true (7 * count) size fits))
+          let long = leb (7 * count) size in
+          let (accepted, (fits, _)) = all-passed (clearText t .verdict ∷ unless long OutputLength (56 * count) ∷ []) e in
+          let enough = leb-true (7 * count) size (test-holds long OutputLength (56 * count) fits) in
+          (bookOf t, its-book t accepted, subst (λ (n : ℕ). 7 * n ≤ size) (its-award t accepted .count) enough)
 
       from : (b : BookEntries) × CoveredText t b × (7 * b .count ≤ size) → awardVerdict t size ≡ Accepted
       from (b, is, h) =
