@@ -1,6 +1,6 @@
 -- Demand 3, of every record that is accepted and of what clearing answers for it. That the record's array of bids has its eight places
 -- is what the language guarantees (`held`). Assumes nothing.
-use Prim.Native.Nat.{ℕ, _-_, _≤_, _<_}
+use Prim.Native.Nat.{ℕ, _≤_, _<_}
 use native.Mathlib.Omega.{arith}
 use mathlib.Core.List.{List, [], _∷_}
 use mathlib.Core.Logic.{_↔_}
@@ -8,23 +8,19 @@ use mathlib.Core.Option.{Option, some, none}
 use mathlib.Core.Path.{_≡_, refl, sym, ap, _∙_, subst}
 use lib.IntN.{ℤ}
 use lib.ListN.{length, getD, length-map, drop-of-length-le}
-use Rattle.lists.proofs.All.{all-any, all-map}
-use Rattle.lists.proofs.Removed.{removed, map-removed}
 use Rattle.refusal.specs.declared.Rule.the-variants.{NotCovered}
 use Rattle.refusal.specs.declared.Verdict.the-variants.{Accepted, Refused}
-use Rattle.money.specs.Price.{priceOf}
 use Rattle.money.specs.declared.Cents.{Cents}
 use Rattle.book.specs.declared.Book.{Book}
 use Rattle.book.specs.Entries.{BidEntries, BookEntries, bidEntries, bookEntries}
 use Rattle.book.specs.Rules.{bookVerdict}
 use Rattle.book.proofs.Records.{noBid}
 use Rattle.book.proofs.Accepted.{book-accepted, all-accepted}
-use Rattle.supply.specs.Supply.{supplyOf, suppliesOf, on, offers, priceAt}
+use Rattle.supply.specs.Supply.{suppliesOf}
 use Rattle.supply.specs.Allocation.{bought}
 use Rattle.divisions.specs.Division.{Allocation}
-use Rattle.divisions.specs.Award.{Priced, awardOf, awardOfBook}
+use Rattle.divisions.specs.Award.{Priced, awardOfBook}
 use Rattle.divisions.specs.IsAward.{insideCount}
-use Rattle.divisions.proofs.Without.{SellsNothing, same-award}
 use Rattle.divisions.proofs.Award.{as-many, award-is, no-award-iff}
 use Rattle.choices.proofs.Accepted.{sound-supplies}
 use Rattle.choices.proofs.OneInside.{at-most-one-inside}
@@ -33,6 +29,7 @@ use Rattle.award.specs.declared.Row.{Row}
 use Rattle.award.specs.Award.{noRow, rowOf}
 use Rattle.clearing.specs.declared.Clearing.{Clearing}
 use Rattle.without.specs.Without.{bookWithout, totalOf, totalWithout}
+use Rattle.without.proofs.Same.{same-total}
 use Rattle.clearing.specs.Clearing.{clearOf}
 use Rattle.clearing.proofs.Answers.{no-division, division}
 use Rattle.awardtheorems.specs.OfBook.{DivisionOf, IsAwardOf}
@@ -88,11 +85,6 @@ module _ (b : BookEntries) where
           let amount : totalOf (awardOfBook b) ≡ Amount (record { 0 = award .cost }) = ap totalOf f in
           let same : _≡_ {A = Cents} (record { 0 = award .cost }) (record { 0 = cents }) = cc in
           (award, award-of-book award f, ap (λ (x : Cents). x .0) same)
-
--- nothing is on segment 0, at price 0
-sells-nothing : (b : BidEntries) → SellsNothing (supplyOf b)
-unfolding offers on priceAt priceOf
-sells-nothing b = record { offered = refl; free = refl }
 
 -- no bids at all have no division
 nobody-sells : (b : BookEntries) (rs : List ℕ) → b .bids ≡ [] → 1 ≤ b .demand → DivisionOf b rs → ⊥
@@ -178,19 +170,13 @@ module _ (book : Book) (held : length (book .bids) ≡ 8) where
         none-without-iff 0 (omega arith) .1 (λ rs d. nobody-sells (bookWithout 0 b) rs (nobody-left one) some-demand d)
 
     -- a bidder who sells nothing has the award's total as its total without
-    left-award : (i : ℕ) → i < b .count → getD (c .award .quantities) i 0 ≡ 0
-        → awardOfBook (bookWithout i b) ≡ some (record { cost = c .award .cost; quantities = removed i (c .award .quantities) })
-    unfolding awardOfBook bookWithout
-    left-award i h e =
-        let supplies = suppliesOf (b .bids) in
-        let bidder : i < length supplies = omega (arith, bids-counted book held (c .accepted), length-map (b .bids) supplyOf) in
-        ap (awardOf (b .demand)) (map-removed supplyOf i (b .bids))
-        ∙ same-award (b .demand) supplies (all-map supplyOf SellsNothing (b .bids) (all-any _ sells-nothing (b .bids))) i bidder (c .award) (c .is-award) e
-
     pub without-same : (i : ℕ) → i < b .count → rowAt (answer .award) i .quantity .0 ≡ 0
         → rowAt (answer .award) i .without ≡ Amount (answer .award .total)
     unfolding rowOf
     without-same i h e =
         let sold : getD (awarded (answer .award) .quantities) i 0 ≡ 0 = sym (ap (λ (row : Row). row .quantity .0) (row-is i h)) ∙ e in
         let none-sold : getD (c .award .quantities) i 0 ≡ 0 = ap (λ (d : Priced). getD (d .quantities) i 0) (sym says) ∙ sold in
-        without-is i h ∙ ap totalOf (left-award i h none-sold) ∙ ap (λ (d : Priced). Amount (record { 0 = d .cost })) (sym says)
+        let bid : i < length (b .bids) = omega (arith, bids-counted book held (c .accepted)) in
+        ap (λ (row : Row). row .without) (row-is i h)
+        ∙ same-total b (c .award) (c .is-award) i bid none-sold
+        ∙ ap (λ (d : Priced). Amount (record { 0 = d .cost })) (sym says)

@@ -1,6 +1,6 @@
 -- The answer of clearing by cases, and from what the search found. Assumes nothing.
 use Prim.Native.Nat.{ℕ}
-use mathlib.Core.Bool.{true, false}
+use mathlib.Core.Bool.{false}
 use mathlib.Core.List.{List}
 use mathlib.Core.Option.{some, none}
 use mathlib.Core.Path.{_≡_, sym, ap, _∙_}
@@ -19,8 +19,8 @@ use Rattle.comparison.specs.Records.{blanksIn, divisionIn, found}
 use Rattle.award.specs.declared.Row.{Row}
 use Rattle.award.specs.Award.{noRow}
 use Rattle.clearing.specs.declared.Clearing.{Clearing}
-use Rattle.without.proofs.Found.{award-some, award-none}
-use Rattle.clearing.specs.Clearing.{rowsFrom, awardRecord, refusedClearing, clearedBook, clearOf}
+use Rattle.without.proofs.Found.{award-none}
+use Rattle.clearing.specs.Clearing.{rowsFrom, awardRecord, refusedClearing, clearedBook, clearOf, BookAward}
 
 -- A book's own refusal, no division, or an award.
 module _ (b : BookEntries) where
@@ -51,14 +51,13 @@ awarded book best rows = record {
   award = record { demand = book .demand; total = best .cost; count = book .count; rows = rows };
 }
 
--- From the search's answer for the record of an accepted book: a division, or that there is none.
-module _ (book : Book) (best : MaybeDivision) (searched : found (book .count) best ≡ awardOf (book .demand .0) (suppliesOf (bookEntries book .bids)))
-    (accepted : bookVerdict (bookEntries book) ≡ Accepted) where
-  pub clear-none : best .found ≡ false → refusedClearing (Refused NotCovered 0) ≡ clearOf (bookEntries book)
-  clear-none h = sym (no-division (bookEntries book) accepted (award-none book best searched h))
+-- From the search's answer for the record of an accepted book: that there is no division, or the award.
+pub clear-none : (book : Book) (best : MaybeDivision) → found (book .count) best ≡ awardOf (book .demand .0) (suppliesOf (bookEntries book .bids))
+    → bookVerdict (bookEntries book) ≡ Accepted → best .found ≡ false → refusedClearing (Refused NotCovered 0) ≡ clearOf (bookEntries book)
+clear-none book best searched accepted h = sym (no-division (bookEntries book) accepted (award-none book best searched h))
 
-  pub clear-award : best .found ≡ true → (rows : List Row)
-      → rows ≡ padded 8 noRow (rowsFrom (bookEntries book) 0 (bookEntries book .bids) (take (book .count) (blanksIn (best .quantities))))
-      → awarded book best rows ≡ clearOf (bookEntries book)
-  unfolding awardRecord
-  clear-award h rows e = rw e (sym (division (bookEntries book) (divisionIn (book .count) best) accepted (award-some book best searched h)))
+pub clear-award : (book : Book) (best : MaybeDivision) → BookAward book best → (rows : List Row)
+    → rows ≡ padded 8 noRow (rowsFrom (bookEntries book) 0 (bookEntries book .bids) (take (book .count) (blanksIn (best .quantities))))
+    → awarded book best rows ≡ clearOf (bookEntries book)
+unfolding awardRecord
+clear-award book best is rows e = rw e (sym (division (bookEntries book) (divisionIn (book .count) best) (is .accepted) (is .is-award)))

@@ -5,8 +5,8 @@ use native.Mathlib.Numerals.{add-one}
 use native.Mathlib.Omega.{arith}
 use mathlib.Core.List.{List, [], _∷_, _++_}
 use mathlib.Core.Path.{_≡_, refl, sym, ap, ap₂, _∙_}
-use lib.ListN.{length, getD, set, take, replicate, length-map, List·getD-map}
-use lib.Seq.{take-suc, take-all, length-take-le, getD-take}
+use lib.ListN.{length, getD, set, take, replicate, length-map}
+use lib.Seq.{take-suc, take-all, length-take-le}
 use Rattle.lists.specs.Padded.{padded}
 use Rattle.lists.proofs.Padded.{padded-next}
 use Rattle.money.specs.declared.Blanks.{Blanks}
@@ -18,6 +18,7 @@ use Rattle.comparison.specs.Records.{blanksIn}
 use Rattle.award.specs.declared.Row.{Row}
 use Rattle.award.specs.Award.{noRow, rowOf}
 use Rattle.without.specs.Without.{totalWithout}
+use Rattle.without.proofs.Found.{quantity-at}
 use Rattle.clearing.specs.Clearing.{rowsFrom}
 
 pub length-rows : (b : BookEntries) (k : ℕ) (bids : List BidEntries) (rs : List ℕ) → length bids ≡ length rs
@@ -82,8 +83,7 @@ module _ (book : Book) (quantities : List Blanks) where
       the-bid = entry-at (book .bids) (book .count) (omega arith) i more
 
       the-quantity : getD rs i 0 ≡ quantity i
-      the-quantity =
-          getD-take (book .count) (blanksIn quantities) i 0 more ∙ List·getD-map (λ (b : Blanks). b .0) quantities i (record { 0 = 0 })
+      the-quantity = quantity-at (book .count) quantities i more
 
       the-row : getD allRows i noRow ≡ row i
       the-row =

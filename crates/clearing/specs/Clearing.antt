@@ -2,14 +2,18 @@
 use Prim.Native.Nat.{ℕ, suc}
 use mathlib.Core.List.{List, [], _∷_}
 use mathlib.Core.Option.{Option, some, none}
+use mathlib.Core.Path.{_≡_}
 use Rattle.lists.specs.Padded.{padded}
 use Rattle.refusal.specs.Checks.{whenAccepted}
 use Rattle.refusal.specs.declared.Rule.the-variants.{NotCovered}
 use Rattle.refusal.specs.declared.Verdict.{Verdict}
 use Rattle.refusal.specs.declared.Verdict.the-variants.{Accepted, Refused}
-use Rattle.book.specs.Entries.{BidEntries, BookEntries}
+use Rattle.book.specs.declared.Book.{Book}
+use Rattle.book.specs.Entries.{BidEntries, BookEntries, bookEntries}
 use Rattle.book.specs.Rules.{bookVerdict}
 use Rattle.divisions.specs.Award.{Priced, awardOfBook}
+use Rattle.comparison.specs.declared.MaybeDivision.{MaybeDivision}
+use Rattle.comparison.specs.Records.{divisionIn}
 use Rattle.award.specs.declared.Row.{Row}
 use Rattle.award.specs.declared.Award.{Award}
 use Rattle.award.specs.Award.{noRow, noAward, rowOf}
@@ -42,3 +46,8 @@ clearedBook b (some award) = record { verdict = Accepted; award = awardRecord b 
 -- of every book
 unfoldable pub clearOf : BookEntries → Clearing
 clearOf b = whenAccepted (bookVerdict b) (clearedBook b (awardOfBook b)) (refusedClearing (bookVerdict b))
+
+-- what `rows` asks: an accepted book, and its award
+pub record BookAward (book : Book) (award : MaybeDivision) : Type 0 where
+  pub accepted : bookVerdict (bookEntries book) ≡ Accepted
+  pub is-award : awardOfBook (bookEntries book) ≡ some (divisionIn (book .count) award)

@@ -2,16 +2,14 @@
 ghost use mathlib.Core.Path.{_≡_};
 ghost use lib.ListN.{take};
 ghost use Rattle.lists.specs.Padded.{padded};
-ghost use Rattle.refusal.specs.declared.Verdict.the-variants.{Accepted};
 ghost use Rattle.book.specs.Entries.{bookEntries};
-ghost use Rattle.book.specs.Rules.{bookVerdict};
 ghost use Rattle.comparison.specs.Records.{blanksIn};
 ghost use Rattle.award.specs.Award.{noRow};
-ghost use Rattle.clearing.specs.Clearing.{rowsFrom, refusedClearing, clearOf};
+ghost use Rattle.clearing.specs.Clearing.{rowsFrom, refusedClearing, clearOf, BookAward};
 use award::Award;
 use award::Row;
 use book::Book;
-use money::Blanks;
+use comparison::MaybeDivision;
 use refusal::Rule;
 use refusal::Verdict;
 
@@ -29,18 +27,18 @@ pub fn refused(verdict: Verdict) -> Clearing
     Clearing { verdict, award }
 }
 
-// A row for each bid.
-fn rows(book: Book, quantities: [Blanks; 8]) -> [Row; 8]
-    requires { ⌜ bookVerdict (bookEntries book) ≡ Accepted ⌝ }
-    ensures { λ r. ⌜ r ≡ padded 8 noRow (rowsFrom (bookEntries book) 0 (bookEntries book .bids) (take (book .count) (blanksIn quantities))) ⌝ }
+// A row for each bid, from the award.
+fn rows(book: Book, award: MaybeDivision) -> [Row; 8]
+    requires { ⌜ BookAward book award ⌝ }
+    ensures { λ r. ⌜ r ≡ padded 8 noRow (rowsFrom (bookEntries book) 0 (bookEntries book .bids) (take (book .count) (blanksIn (award .quantities)))) ⌝ }
 {
     let blank = award::no_row();
     let mut rows = [blank; 8];
     let mut i: usize = 0;
     while i < book.count {
         let bid = book.bids[i];
-        let quantity = quantities[i];
-        let total = without::total_without(book, i);
+        let quantity = award.quantities[i];
+        let total = without::total_beside(book, i, award);
         let row = award::row_of(bid, quantity, total);
         rows[i] = row;
         i += 1;
@@ -61,11 +59,10 @@ pub fn clear(book: Book) -> Clearing
     if !best.found {
         return refused(Verdict::Refused(Rule::NotCovered, 0));
     }
-    let quantities = best.quantities;
     let demand = book.demand;
     let total = best.cost;
     let count = book.count;
-    let rows = rows(book, quantities);
+    let rows = rows(book, best);
     let award = Award {
         demand,
         total,

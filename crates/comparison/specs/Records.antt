@@ -1,4 +1,4 @@
--- For the contracts of this crate, of `meritorder`, of `search` and of `clearing`: what the record of a division holds.
+-- For the contracts of this crate, of `meritorder`, of `search`, of `without` and of `clearing`: what the record of a division holds.
 use Prim.Native.Nat.{ℕ, _≤_}
 use mathlib.Core.Bool.{true, cond}
 use mathlib.Core.List.{List, map}

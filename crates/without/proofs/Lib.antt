@@ -1,3 +1,4 @@
 pub mod Less
 pub mod Searchable
 pub mod Found
+pub mod Same

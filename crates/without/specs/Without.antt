@@ -5,9 +5,12 @@ use mathlib.Core.Option.{Option, some, none}
 use mathlib.Core.Path.{_≡_}
 use lib.ListN.{take, drop}
 use Rattle.refusal.specs.declared.Verdict.the-variants.{Accepted}
-use Rattle.book.specs.Entries.{BookEntries}
+use Rattle.book.specs.declared.Book.{Book}
+use Rattle.book.specs.Entries.{BookEntries, bookEntries}
 use Rattle.book.specs.Rules.{bookVerdict}
 use Rattle.divisions.specs.Award.{Priced, awardOfBook}
+use Rattle.comparison.specs.declared.MaybeDivision.{MaybeDivision}
+use Rattle.comparison.specs.Records.{divisionIn}
 use Rattle.award.specs.declared.Total.{Total}
 use Rattle.award.specs.declared.Total.the-variants.{Amount, Nothing}
 
@@ -33,3 +36,9 @@ pub record OneOf (n i : ℕ) : Type 0 where
 pub record BidOf (b : BookEntries) (i : ℕ) : Type 0 where
   pub accepted : bookVerdict b ≡ Accepted
   pub within : i < b .count
+
+-- what `total_beside` asks: an accepted book, the index of one of its bids, and the book's award
+pub record BesideAward (book : Book) (i : ℕ) (award : MaybeDivision) : Type 0 where
+  pub accepted : bookVerdict (bookEntries book) ≡ Accepted
+  pub within : i < book .count
+  pub is-award : awardOfBook (bookEntries book) ≡ some (divisionIn (book .count) award)

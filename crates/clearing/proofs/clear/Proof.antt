@@ -5,8 +5,9 @@ use borrow.Author.Tests.{not-true, not-false}
 use Rattle.refusal.specs.declared.Verdict.the-variants.{Accepted}
 use Rattle.book.specs.Entries.{bookEntries}
 use Rattle.book.specs.Rules.{bookVerdict}
-use Rattle.clearing.specs.Clearing.{refusedClearing}
+use Rattle.clearing.specs.Clearing.{refusedClearing, BookAward}
 use Rattle.without.proofs.Searchable.{searchable}
+use Rattle.without.proofs.Found.{award-some}
 use Rattle.clearing.proofs.Answers.{rules-first, clear-none, clear-award}
 use Rattle.clearing.proofs.clear.Statement.{statement}
 use Rattle.clearing.proofs.clear.Tie as tie
@@ -30,19 +31,18 @@ returns-2 c =
     c .refused2 .ensures
     ∙ clear-none _ (best .result) (best .ensures) (accepted (b .before)) (not-true (best .result .found) (c .before .if1 .taken))
 
--- The branch with a division, seen from where its parts are copied.
-abbrev covered : tie.After-total → tie.Else1
-covered c = c .before .before .before
+-- in the branch with a division, that is the award
+is-award : (c : tie.Else1) → BookAward (c .before .before .before .before .before .before .args .book) (c .before .before .best-division .result)
+is-award c =
+    let b = c .before .before in
+    let best = b .best-division in
+    record { accepted = accepted (b .before); is-award = award-some _ (best .result) (best .ensures) (not-false (best .result .found) (c .if1 .left)) }
 
 rows-requires : tie.Need-rows-requires
-rows-requires c κs = accepted (covered c .before .before .before)
+rows-requires c κs = is-award (c .before .before)
 
 returns-3 : tie.Need-returns-3
-returns-3 c =
-    let e = covered (c .before) in
-    let b = e .before .before in
-    let best = b .best-division in
-    clear-award _ (best .result) (best .ensures) (accepted (b .before)) (not-false (best .result .found) (e .if1 .left)) _ (c .rows .ensures)
+returns-3 c = clear-award _ _ (is-award (c .before .before .before)) _ (c .rows .ensures)
 
 pub clear-spec : {M : Type 1} → statement M
 clear-spec =

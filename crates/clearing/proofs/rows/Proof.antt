@@ -15,16 +15,16 @@ use Rattle.clearing.proofs.rows.Statement.{statement}
 use Rattle.clearing.proofs.rows.Tie as tie
 
 abbrev Inv-loop : tie.InvT-loop
-Inv-loop book quantities rows₀ i₀ rows i = Made book quantities rows i
+Inv-loop book award rows₀ i₀ rows i = Made book (award .quantities) rows i
 
 abbrev μ-loop : tie.MeasureT-loop
-μ-loop book quantities rows₀ i₀ rows i = book .count - i
+μ-loop book award rows₀ i₀ rows i = book .count - i
 
 -- Places, seen from later ones: the start from a turn, and the turn from its total.
 abbrev start : tie.In-loop Inv-loop μ-loop → tie.Start Inv-loop μ-loop
 start c = c .before .before .before
 
-abbrev turn : tie.After-total-without Inv-loop μ-loop → tie.In-loop Inv-loop μ-loop
+abbrev turn : tie.After-total-beside Inv-loop μ-loop → tie.In-loop Inv-loop μ-loop
 turn c = c .before .before .before
 
 -- What is known throughout: the record holds the bids, at most eight, and as many quantities, and each bid is accepted.
@@ -32,22 +32,24 @@ turn c = c .before .before .before
 held : (c : tie.Start Inv-loop μ-loop) → length (c .args .t1 .bids) ≡ 8
 held c = search (length-held, c .good)
 
-quantities-held : (c : tie.Start Inv-loop μ-loop) → length (c .args .t2) ≡ 8
+quantities-held : (c : tie.Start Inv-loop μ-loop) → length (c .args .t2 .quantities) ≡ 8
 quantities-held c = search (length-held, c .good)
 
 few : (c : tie.Start Inv-loop μ-loop) → c .args .t1 .count ≤ 8
-few c = few-bids (c .args .t1) (c .pre) (held c)
+few c = few-bids (c .args .t1) (c .pre .accepted) (held c)
 
 this-accepted : (c : tie.In-loop Inv-loop μ-loop) → AcceptedBid (bidEntries (getD (start c .args .t1 .bids) (c .before .loop .i) noBid))
 this-accepted c =
     let s = start c in
-    bid-at (s .args .t1) (s .pre) (held s) (c .before .loop .i) (c .loop-test .taken)
+    bid-at (s .args .t1) (s .pre .accepted) (held s) (c .before .loop .i) (c .loop-test .taken)
 
 loop-holds : tie.Need-loop-holds Inv-loop μ-loop
-loop-holds c = made-none (c .before .args .t1) (c .before .args .t2) (c .no-row .result) (c .no-row .ensures)
+loop-holds c = made-none (c .before .args .t1) (c .before .args .t2 .quantities) (c .no-row .result) (c .no-row .ensures)
 
-total-without-requires : tie.Need-total-without-requires Inv-loop μ-loop
-total-without-requires c κs = record { accepted = start (c .before .before) .pre; within = omega arith }
+total-beside-requires : tie.Need-total-beside-requires Inv-loop μ-loop
+total-beside-requires c κs =
+    let asked = start (c .before .before) .pre in
+    record { accepted = asked .accepted; within = omega arith; is-award = asked .is-award }
 
 row-of-requires : tie.Need-row-of-requires Inv-loop μ-loop
 row-of-requires c κs = let kept = this-accepted (turn c) in record { held = kept .count-high; ranges = kept .ranges }
@@ -57,14 +59,14 @@ loop-again c =
     let l = turn (c .before) in
     let at = l .before .loop in
     let s = start l in
-    let row = c .row-of .ensures ∙ ap (rowOf _ _) (c .before .total-without .ensures) in
-    made-next (s .args .t1) (s .args .t2) (few s) (held s) (quantities-held s) (at .i) (l .loop-test .taken) (at .rows) _ (at .inv) row
+    let row = c .row-of .ensures ∙ ap (rowOf _ _) (c .before .total-beside .ensures) in
+    made-next (s .args .t1) (s .args .t2 .quantities) (few s) (held s) (quantities-held s) (at .i) (l .loop-test .taken) (at .rows) _ (at .inv) row
 
 returns : tie.Need-returns Inv-loop μ-loop
 returns c =
     let at = c .before .loop in
     let s = c .before .before .before in
-    made-all (s .args .t1) (s .args .t2) (few s) (held s) (quantities-held s) (at .rows) (at .i) (at .inv) (c .loop-test .left)
+    made-all (s .args .t1) (s .args .t2 .quantities) (few s) (held s) (quantities-held s) (at .rows) (at .i) (at .inv) (c .loop-test .left)
 
 pub rows-spec : {M : Type 1} → statement M
 rows-spec =
@@ -78,7 +80,7 @@ rows-spec =
     (λ c. omega (arith, few (start c)))
     (λ c. omega (arith, few (start (c .before))))
     (λ c. omega (arith, few (start (c .before))))
-    total-without-requires
+    total-beside-requires
     row-of-requires
     (λ c. omega (arith, few (start (turn (c .before)))))
     (λ c. omega (arith, few (start (turn (c .before)))))

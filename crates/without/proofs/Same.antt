@@ -1,0 +1,29 @@
+-- A bidder who sells nothing: the total without it is the award's. Assumes nothing.
+use Prim.Native.Nat.{ℕ, _<_}
+use native.Mathlib.Omega.{arith}
+use mathlib.Core.Option.{some}
+use mathlib.Core.Path.{_≡_, refl, ap, _∙_}
+use lib.ListN.{length, getD, length-map}
+use Rattle.lists.proofs.All.{all-any, all-map}
+use Rattle.lists.proofs.Removed.{map-removed}
+use Rattle.money.specs.Price.{priceOf}
+use Rattle.book.specs.Entries.{BidEntries, BookEntries}
+use Rattle.supply.specs.Supply.{supplyOf, suppliesOf, on, offers, priceAt}
+use Rattle.divisions.specs.Award.{Priced, awardOf, awardOfBook}
+use Rattle.divisions.proofs.Without.{SellsNothing, same-award}
+use Rattle.award.specs.declared.Total.the-variants.{Amount}
+use Rattle.without.specs.Without.{bookWithout, totalOf, totalWithout}
+
+-- nothing is on segment 0, at price 0
+sells-nothing : (b : BidEntries) → SellsNothing (supplyOf b)
+unfolding offers on priceAt priceOf
+sells-nothing b = record { offered = refl; free = refl }
+
+pub same-total : (b : BookEntries) (award : Priced) → awardOfBook b ≡ some award → (i : ℕ) → i < length (b .bids) → getD (award .quantities) i 0 ≡ 0
+    → totalWithout b i ≡ Amount (record { 0 = award .cost })
+unfolding awardOfBook bookWithout totalWithout
+same-total b award is-award i bid e =
+    let supplies = suppliesOf (b .bids) in
+    let bidder : i < length supplies = omega (arith, length-map (b .bids) supplyOf) in
+    ap (λ left. totalOf (awardOf (b .demand) left)) (map-removed supplyOf i (b .bids))
+    ∙ ap totalOf (same-award (b .demand) supplies (all-map supplyOf SellsNothing (b .bids) (all-any _ sells-nothing (b .bids))) i bidder award is-award e)
