@@ -4,5 +4,6 @@ pub mod Everywhere
 pub mod All
 pub mod Joined
 pub mod Padded
+pub mod Latest
 pub mod Members
 pub mod Removed

@@ -2,4 +2,5 @@ pub mod Every
 pub mod All
 pub mod Joined
 pub mod Padded
+pub mod Latest
 pub mod Those

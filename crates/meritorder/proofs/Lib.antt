@@ -1,4 +1,3 @@
-pub mod Segments
 pub mod Sums
 pub mod Prices
 pub mod Filling

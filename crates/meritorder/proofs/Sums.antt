@@ -1,53 +1,38 @@
--- Sums, as a loop from the first bidder to the last adds them up. Assumes nothing.
-use Prim.Native.Nat.{ℕ, suc, _+_, _-_, _*_, _≤_, _<_}
+-- Sums over the chosen segments, as a loop from the first bidder to the last adds them up. Assumes nothing.
+use Prim.Native.Nat.{ℕ, _+_, _-_, _*_, _≤_, _<_}
 use native.Mathlib.Numerals.{add-one}
 use native.Mathlib.Omega.{arith}
-use mathlib.Core.List.{List}
+use mathlib.Core.Bool.{Bool, true, false, cond}
+use mathlib.Core.List.{List, [], _∷_}
 use mathlib.Core.Path.{_≡_, refl, sym, ap, _∙_}
 use borrow.Author.Tests.{le-leb, lt-leb}
-use lib.ListN.{getD}
+use lib.Dec.{leb}
+use Rattle.lists.proofs.Latest.{latest-none, latest-next, latest-at}
 use Rattle.book.specs.declared.Segment.{Segment}
-use Rattle.choices.specs.Choice.{width, widthAt, cheaper}
-use Rattle.meritorder.specs.Records.{sumOf, firstSegments}
-use Rattle.meritorder.proofs.Segments.{rows-none, rows-next}
+use Rattle.supply.specs.Supply.{segment0}
+use Rattle.choices.specs.Choice.{starts, ends, width, widthAt, cheaper}
+use Rattle.choices.specs.Sound.{SoundSegment}
+use Rattle.meritorder.specs.declared.Choice.{Choice}
+use Rattle.meritorder.specs.Records.{segmentAt, firstSegments, Sound, HasFirst}
 
--- `sum` is the value of f for the first i of n bidders
-pub record Summed (f : ℕ → ℕ) (n i sum : ℕ) : Type 0 where
-  pub within : i ≤ n
-  pub size : sum ≤ 1000000 * i
-  pub value : sum ≡ f i
+-- a sound choice: each of its segments, and all of them
+pub sound-at : {c : Choice} → Sound c → (i : ℕ) → i < c .count → SoundSegment (segmentAt c i)
+sound-at {c} sound i h = latest-at segment0 SoundSegment (c .segments) (c .count) i (sound .each) h
 
-pub summed-none : (f : ℕ → ℕ) (n : ℕ) → f 0 ≡ 0 → Summed f n 0 0
-summed-none f n e = record { within = omega arith; size = omega arith; value = sym e }
+pub has-all : {c : Choice} → Sound c → HasFirst c (c .count)
+has-all sound = record { sound = sound; within = omega arith }
 
-module _ {f : ℕ → ℕ} {n i sum : ℕ} (summed : Summed f n i sum) where
-  -- the next bidder adds w
-  pub summed-next : (sum′ w : ℕ) → f (suc i) ≡ w + f i → i < n → w ≤ 1000000 → sum′ ≡ sum + w → Summed f n (i + 1) sum′
-  summed-next sum′ w next more high e =
-      let here : f (i + 1) ≡ w + f i = rw add-one next in
-      record { within = omega arith; size = omega (arith, summed .size); value = omega (arith, summed .value) }
+-- f adds up g of every segment, which is at most a million
+pub record Adds (f : List Segment → ℕ) (g : Segment → ℕ) : Type 0 where
+  pub none : f [] ≡ 0
+  pub next : (s : Segment) (c : List Segment) → f (s ∷ c) ≡ g s + f c
+  pub high : (s : Segment) → SoundSegment s → g s ≤ 1000000
 
-  pub summed-all : n ≤ i → sum ≡ f n
-  summed-all h = let e : i ≡ n = omega (arith, summed .within) in summed .value ∙ ap f e
+pub adds-starts : Adds starts (λ s. s .start .0)
+adds-starts = record { none = refl; next = λ s c. refl; high = λ s sound. omega (arith, sound .order, sound .end-high) }
 
--- a column
-pub sum-none : (xs : List ℕ) → sumOf xs 0 ≡ 0
-unfolding sumOf
-sum-none xs = refl
-
-pub sum-next : (xs : List ℕ) (n : ℕ) → sumOf xs (suc n) ≡ getD xs n 0 + sumOf xs n
-unfolding sumOf
-sum-next xs n = refl
-
--- the widths that count at a unit price
-abbrev pub cheaperTo : ℕ → (ℕ → Segment) → ℕ → ℕ
-cheaperTo unit at n = cheaper unit (firstSegments at n)
-
-pub cheaper-none : (unit : ℕ) (at : ℕ → Segment) → cheaperTo unit at 0 ≡ 0
-cheaper-none unit at = ap (cheaper unit) (rows-none at)
-
-pub cheaper-next : (unit : ℕ) (at : ℕ → Segment) (n : ℕ) → cheaperTo unit at (suc n) ≡ widthAt unit (at n) + cheaperTo unit at n
-cheaper-next unit at n = ap (cheaper unit) (rows-next at n)
+pub adds-ends : Adds ends (λ s. s .end .0)
+adds-ends = record { none = refl; next = λ s c. refl; high = λ s sound. sound .end-high }
 
 -- a width counts, or its segment is dearer
 pub width-counts : (unit : ℕ) (s : Segment) → s .unit .0 ≤ unit → widthAt unit s ≡ s .end .0 - s .start .0
@@ -56,3 +41,43 @@ width-counts unit s h = rw (le-leb (s .unit .0) unit h)
 
 pub dearer : (unit : ℕ) (s : Segment) → unit < s .unit .0 → widthAt unit s ≡ 0
 dearer unit s h = rw (lt-leb (s .unit .0) unit h)
+
+width-high : (s : Segment) → SoundSegment s → (counts : Bool) → cond counts (width s) 0 ≤ 1000000
+unfolding width
+width-high s sound true = omega (arith, sound .end-high)
+width-high s sound false = omega arith
+
+pub adds-cheaper : (unit : ℕ) → Adds (cheaper unit) (widthAt unit)
+adds-cheaper unit = record { none = refl; next = λ s c. refl; high = λ s sound. width-high s sound (leb (s .unit .0) unit) }
+
+-- `sum` is f of the first i of n segments
+pub record Summed (f : List Segment → ℕ) (c : Choice) (n i sum : ℕ) : Type 0 where
+  pub within : i ≤ n
+  pub size : sum ≤ 1000000 * i
+  pub value : sum ≡ f (firstSegments c i)
+
+pub summed-none : {f : List Segment → ℕ} {g : Segment → ℕ} → Adds f g → (c : Choice) (n : ℕ) → Summed f c n 0 0
+summed-none {f} adds c n = record {
+  within = omega arith;
+  size = omega arith;
+  value = sym (ap f (latest-none segment0 (c .segments)) ∙ adds .none);
+}
+
+pub summed-all : {f : List Segment → ℕ} {c : Choice} {n i sum : ℕ} → Summed f c n i sum → n ≤ i → sum ≡ f (firstSegments c n)
+summed-all {f} {c} {n} {i} summed h = let e : i ≡ n = omega (arith, summed .within) in summed .value ∙ ap (λ (k : ℕ). f (firstSegments c k)) e
+
+-- a turn adds that of the next segment
+module _ {f : List Segment → ℕ} {g : Segment → ℕ} (adds : Adds f g) {c : Choice} {n i sum : ℕ} (summed : Summed f c n i sum)
+    (has : HasFirst c n) (further : i < n) where
+  little : g (segmentAt c i) ≤ 1000000
+  little = adds .high (segmentAt c i) (sound-at (has .sound) i (omega (arith, has .within)))
+
+  pub sum-small : sum + g (segmentAt c i) ≤ 8000000
+  sum-small = omega (arith, little, summed .size, has .within, has .sound .few)
+
+  value-next : f (firstSegments c (i + 1)) ≡ g (segmentAt c i) + f (firstSegments c i)
+  value-next = rw add-one (ap f (latest-next segment0 (c .segments) i) ∙ adds .next (segmentAt c i) (firstSegments c i))
+
+  pub summed-next : (sum′ : ℕ) → sum′ ≡ sum + g (segmentAt c i) → Summed f c n (i + 1) sum′
+  summed-next sum′ e =
+      record { within = omega arith; size = omega (arith, little, summed .size); value = omega (arith, value-next, summed .value) }

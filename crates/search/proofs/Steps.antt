@@ -4,11 +4,11 @@ use native.Mathlib.Numerals.{add-one}
 use native.Mathlib.Omega.{arith}
 use mathlib.Core.Bool.{true, false}
 use mathlib.Core.List.{List, [], _∷_, map}
-use mathlib.Core.Option.{Option, none}
-use mathlib.Core.Path.{_≡_, refl, sym, ap, subst, _∙_}
-use lib.IntN.{ℤ}
-use lib.ListN.{length, getD, take, drop, length-map, List·getD-map, length-take, drop-of-length-le}
+use mathlib.Core.Option.{Option}
+use mathlib.Core.Path.{_≡_, ap, subst, _∙_}
+use lib.ListN.{length, getD, set, take, drop, length-map, List·getD-map, length-take, drop-of-length-le}
 use lib.Seq.{drop-cons}
+use Rattle.lists.proofs.Latest.{latest-none, latest-set}
 use Rattle.book.specs.declared.Segment.{Segment}
 use Rattle.book.specs.declared.Bid.{Bid}
 use Rattle.book.specs.Entries.{BidEntries, bidEntries}
@@ -18,19 +18,29 @@ use Rattle.supply.specs.Supply.{segment0, supplyOf, suppliesOf}
 use Rattle.divisions.specs.Award.{Priced, pick}
 use Rattle.choices.specs.Choice.{fits, filled}
 use Rattle.choices.specs.Search.{each, leaf, search, searched}
+use Rattle.choices.specs.Sound.{SoundSegment}
 use Rattle.comparison.specs.declared.MaybeDivision.{MaybeDivision}
 use Rattle.comparison.specs.Records.{found}
 use Rattle.meritorder.specs.declared.Choice.{Choice}
-use Rattle.meritorder.specs.Records.{segmentAt, firstSegments, SoundColumns, chosen}
-use Rattle.meritorder.proofs.Segments.{rows-none}
+use Rattle.meritorder.specs.Records.{chosen, Sound}
 
 -- A choice: none yet, and one with a segment more.
 
 nothing-chosen : (c : Choice) → c .count ≡ 0 → chosen c ≡ []
-nothing-chosen c e = rw e (rows-none (segmentAt (c .starts) (c .ends) (c .units) (c .fixed)))
+nothing-chosen c e = rw e (latest-none segment0 (c .segments))
 
-pub sound-nothing : (s e u : List ℕ) (f : List ℤ) → SoundColumns s e u f 0
-sound-nothing s e u f = record { few = omega arith; each = rw rows-none tt }
+pub sound-nothing : (ss : List Segment) → Sound (record { count = 0; segments = ss })
+sound-nothing ss = record { few = omega arith; each = rw latest-none tt }
+
+module _ (c : Choice) (s : Segment) (few : c .count < 8) (held : length (c .segments) ≡ 8) where
+  abbrev more : Choice
+  more = record { count = c .count + 1; segments = set (c .segments) (c .count) s }
+
+  pub chosen-more : chosen more ≡ s ∷ chosen c
+  chosen-more = latest-set segment0 (c .segments) (c .count) s (omega arith)
+
+  pub sound-more : Sound c → SoundSegment s → Sound more
+  sound-more sound h = record { few = omega arith; each = rw chosen-more (h, sound .each) }
 
 -- A complete choice.
 module _ (demand : ℕ) (c : List Segment) (o : Option Priced) where
@@ -65,18 +75,12 @@ module _ (f : Segment → Option Priced → Option Priced) (ss : List Segment) (
 abbrev pub tried : ℕ → List (List Segment) → List Segment → Segment → Option Priced → Option Priced
 tried demand supplies c s = search demand supplies (s ∷ c)
 
--- The last bidder, and no bidder.
-module _ (demand : ℕ) (c : List Segment) (o : Option Priced) where
-  pub one-left : (ss : List Segment) → search demand (ss ∷ []) c o ≡ each (tried demand [] c) ss o
-  unfolding search
-  one-left ss = refl
-
-  pub none-left : search demand [] c o ≡ leaf demand c o
-  unfolding search
-  none-left = refl
-
 -- The bidders from `at` on.
 module _ (demand : ℕ) (supplies : List (List Segment)) (at : ℕ) (c : List Segment) (o : Option Priced) where
+  search-done : length supplies ≤ at → search demand (drop at supplies) c o ≡ leaf demand c o
+  unfolding search
+  search-done h = rw (drop-of-length-le supplies h)
+
   search-next : (ss d : List Segment) → at < length supplies → getD supplies at d ≡ ss
       → search demand (drop at supplies) c o ≡ each (tried demand (drop (at + 1) supplies) c) ss o
   unfolding search
@@ -94,22 +98,15 @@ module _ (bids : List Bid) (n : ℕ) (held : n ≤ length bids) where
   supply-at i h = List·getD-map supplyOf entries i (bidEntries noBid) ∙ ap supplyOf (entry-at bids n held i h)
 
   module _ (demand at : ℕ) (c : List Segment) (o : Option Priced) where
+    pub bidders-done : n ≤ at → search demand (drop at (suppliesOf entries)) c o ≡ leaf demand c o
+    bidders-done h = search-done demand (suppliesOf entries) at c o (omega (arith, length-supplies))
+
     pub bidders-next : at < n
         → search demand (drop at (suppliesOf entries)) c o
         ≡ each (tried demand (drop (at + 1) (suppliesOf entries)) c) (supplyOf (bidEntries (getD bids at noBid))) o
     bidders-next h =
         let l : at < length (suppliesOf entries) = rw length-supplies h in
         search-next demand (suppliesOf entries) at c o _ (supplyOf (bidEntries noBid)) l (supply-at at h)
-
-    -- the last of them
-    pub bidders-last : at + 1 ≡ n
-        → search demand (drop at (suppliesOf entries)) c o ≡ search demand (supplyOf (bidEntries (getD bids at noBid)) ∷ []) c o
-    bidders-last h =
-        let all : length (suppliesOf entries) ≤ at + 1 = omega (arith, length-supplies) in
-        let here = supplyOf (bidEntries (getD bids at noBid)) in
-        bidders-next (omega arith)
-        ∙ ap (λ (later : List (List Segment)). each (tried demand later c) here o) (drop-of-length-le (suppliesOf entries) all)
-        ∙ sym (one-left demand c o here)
 
 -- Of a bid, segment 0 and those that it counts.
 module _ (b : Bid) where
@@ -118,10 +115,5 @@ module _ (b : Bid) where
 
 -- The search from no choice and no division.
 pub from-nothing : (demand : ℕ) (supplies : List (List Segment)) (n : ℕ) (c : Choice) (best : MaybeDivision) → c .count ≡ 0 → best .found ≡ false
-    → search demand supplies (chosen c) (found n best) ≡ searched demand supplies
-from-nothing demand supplies n c best e f = rw (nothing-chosen c e, f)
-
--- A book without bids.
-pub no-bidders : (demand : ℕ) (bids : List Bid) (n : ℕ) (at : ℕ → Segment) (r best : MaybeDivision) → n ≡ 0 → best .found ≡ false
-    → found 0 r ≡ leaf demand (firstSegments at 0) (found 0 best) → found n r ≡ searched demand (suppliesOf (map bidEntries (take n bids)))
-no-bidders demand bids n at r best e f h = rw e (rw (rows-none at, f) at h ∙ sym (none-left demand [] none))
+    → search demand (drop (c .count) supplies) (chosen c) (found n best) ≡ searched demand supplies
+from-nothing demand supplies n c best e f = rw (nothing-chosen c e, e, f)

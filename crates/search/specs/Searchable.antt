@@ -1,11 +1,9 @@
 -- For the contracts of this crate: what the search and its steps ask of a book and of a choice.
-use Prim.Native.Nat.{ℕ, _+_, _≤_, _<_}
-use mathlib.Core.Path.{_≡_}
+use Prim.Native.Nat.{_≤_, _<_}
 use Rattle.lists.specs.All.{All}
 use Rattle.book.specs.declared.Segment.{Segment}
-use Rattle.book.specs.declared.Bid.{Bid}
 use Rattle.book.specs.declared.Book.{Book}
-use Rattle.book.specs.Entries.{BookEntries, bidEntries, bookEntries}
+use Rattle.book.specs.Entries.{BookEntries, bookEntries}
 use Rattle.book.specs.Accepted.{AcceptedBid}
 use Rattle.choices.specs.Sound.{SoundSegment}
 use Rattle.meritorder.specs.declared.Choice.{Choice}
@@ -22,15 +20,8 @@ pub record Choosable (c : Choice) (s : Segment) : Type 0 where
   pub segment : SoundSegment s
   pub not-full : c .count < 8
 
--- what `last_bidder` asks: an accepted bid, and a choice of fewer than eight bidders
-pub record OneLeft (b : Bid) (c : Choice) : Type 0 where
-  pub bid : AcceptedBid (bidEntries b)
-  pub choice : Sound c
-  pub not-full : c .count < 8
-
--- what `search` asks: a choice for the bidders before `at`, and a bidder after it
-pub record SomeLeft (book : Book) (at : ℕ) (c : Choice) : Type 0 where
+-- what `search` asks: a book, and a choice for the first of its bidders, for none or for all
+pub record ChoiceOf (book : Book) (c : Choice) : Type 0 where
   pub searchable : Searchable (bookEntries book)
   pub choice : Sound c
-  pub is-at : c .count ≡ at
-  pub further : at + 1 < book .count
+  pub within : c .count ≤ book .count
