@@ -1,10 +1,11 @@
 -- A segment chosen from each supply function, in book order, and an extra of its width: these are the allocations. Assumes nothing.
-use Prim.Native.Nat.{ℕ, _+_, _-_, _≤_}
+use Prim.Native.Nat.{ℕ, suc, _+_, _-_, _≤_}
 use native.Mathlib.Omega.{arith}
 use mathlib.Core.Bool.{Bool, true, false, cond, or-true, false≢true}
 use mathlib.Core.List.{List, [], _∷_, List·Memᴰ as In, List·Memᴰ·head as here, List·Memᴰ·tail as there, List·Memᴰ·not-nil}
 use mathlib.Core.Path.{_≡_, refl, ap, ap₂, _∙_}
 use borrow.Author.Tests.{le-leb}
+use lib.ListN.{length}
 use lib.IntN.{pos, _+ℤ_}
 use Rattle.lists.specs.All.{All}
 use Rattle.lists.proofs.Members.{all-in}
@@ -15,19 +16,12 @@ use Rattle.supply.specs.Allocation.{costOf}
 use Rattle.divisions.specs.Division.{Allocation}
 use Rattle.divisions.specs.IsAward.{insideCount}
 use Rattle.choices.specs.Choice.{width, placed}
+use Rattle.choices.specs.Chosen.{Chosen}
 use Rattle.choices.specs.Sound.{SoundSegment}
 use Rattle.choices.proofs.Sound.{SoundSupply}
-use Rattle.choices.proofs.Fill.{cost}
+use Rattle.choices.proofs.Fill.{cost, Box}
 use Rattle.choices.proofs.Certificate.{insides}
 use Rattle.choices.proofs.Placed.{price-on}
-
-abbrev pub Chosen : List (List Segment) → List Segment → List ℕ → Type 0
-Chosen [] [] [] = Unit {0}
-Chosen (ss ∷ supplies) (s ∷ c) (x ∷ xs) = In s ss × (x ≤ width s) × Chosen supplies c xs
-Chosen [] [] (x ∷ xs) = ⊥
-Chosen [] (s ∷ c) xs = ⊥
-Chosen (ss ∷ supplies) [] xs = ⊥
-Chosen (ss ∷ supplies) (s ∷ c) [] = ⊥
 
 -- One segment.
 
@@ -108,3 +102,18 @@ allocation-chosen (ss ∷ supplies) (r ∷ rs) a =
     let o = offered ss r (a .0) in
     let (c, xs, l, e) = allocation-chosen supplies rs (a .1) in
     (o .segment ∷ c, o .extra ∷ xs, (o .chosen, o .within, l), ap₂ _∷_ (o .quantity) e)
+
+-- Of segments so chosen: their extras are in their box, each is sound, and there is one for each supply function.
+
+pub chosen-box : (supplies : List (List Segment)) (c : List Segment) (xs : List ℕ) → Chosen supplies c xs → Box c xs
+chosen-box [] [] [] a = tt
+chosen-box (ss ∷ supplies) (s ∷ c) (x ∷ xs) (m, h, a) = (h, chosen-box supplies c xs a)
+
+pub chosen-each : (supplies : List (List Segment)) (c : List Segment) (xs : List ℕ) → All SoundSupply supplies → Chosen supplies c xs
+    → All SoundSegment c
+chosen-each [] [] [] sound a = tt
+chosen-each (ss ∷ supplies) (s ∷ c) (x ∷ xs) sound (m, h, a) = (all-in SoundSegment ss s (sound .0 .each) m, chosen-each supplies c xs (sound .1) a)
+
+pub chosen-length : (supplies : List (List Segment)) (c : List Segment) (xs : List ℕ) → Chosen supplies c xs → length c ≡ length supplies
+chosen-length [] [] [] a = refl
+chosen-length (ss ∷ supplies) (s ∷ c) (x ∷ xs) (m, h, a) = ap suc (chosen-length supplies c xs a)

@@ -15,14 +15,14 @@ use Rattle.divisions.specs.Award.{Priced}
 use Rattle.divisions.proofs.Order.{better-cost, better-tie}
 use Rattle.divisions.proofs.IsBest.{NotBetter}
 use Rattle.choices.specs.Choice.{starts, fits, placed, extrasOf, filled}
+use Rattle.choices.specs.Leaf.{Leaf}
 use Rattle.choices.specs.Sound.{SoundSegment}
 use Rattle.choices.proofs.Sound.{SoundSupply}
 use Rattle.choices.proofs.Fill.{cost, Box, Wins, extras-bought, extras-box, box-widths}
 use Rattle.choices.proofs.Certificate.{extras-cert, insides, one-inside}
 use Rattle.choices.proofs.Optimal.{cert-wins}
 use Rattle.choices.proofs.Placed.{cost-with, placed-bought, ends-widths, fits-low, fits-high, fits-when, placed-less, less-more}
-use Rattle.choices.proofs.Leaves.{Leaf}
-use Rattle.choices.proofs.Chosen.{Chosen}
+use Rattle.choices.specs.Chosen.{Chosen}
 
 -- the extras xs of the choice so far, and the extras ys of the segments e chosen for the bidders left
 abbrev pub together : List Segment → List ℕ → List Segment → List ℕ → Priced

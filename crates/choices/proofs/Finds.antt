@@ -13,11 +13,13 @@ use Rattle.divisions.specs.Award.{Priced, awardOf}
 use Rattle.divisions.proofs.IsBest.{IsBest, NotBetter, best-of, best-iff, best-unique}
 use Rattle.divisions.proofs.Award.{PricedDivision, award-best}
 use Rattle.choices.specs.Choice.{placed}
+use Rattle.choices.specs.Leaf.{Leaf}
 use Rattle.choices.specs.Search.{searched}
 use Rattle.choices.proofs.Sound.{SoundSupply}
 use Rattle.choices.proofs.Fill.{cost}
-use Rattle.choices.proofs.Leaves.{Leaf, search-best}
-use Rattle.choices.proofs.Chosen.{Chosen, chosen-allocation, chosen-cost, allocation-chosen}
+use Rattle.choices.proofs.Leaves.{search-best}
+use Rattle.choices.specs.Chosen.{Chosen}
+use Rattle.choices.proofs.Chosen.{chosen-allocation, chosen-cost, allocation-chosen}
 use Rattle.choices.proofs.Divides.{together, divides, as-good}
 
 -- the best of all complete choices that fit

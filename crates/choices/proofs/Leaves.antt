@@ -9,12 +9,8 @@ use Rattle.book.specs.declared.Segment.{Segment}
 use Rattle.divisions.specs.Award.{Priced, pick}
 use Rattle.divisions.proofs.IsBest.{IsBest, best-iff, best-pick}
 use Rattle.choices.specs.Choice.{fits, filled}
+use Rattle.choices.specs.Leaf.{Leaf}
 use Rattle.choices.specs.Search.{each, leaf, search}
-
--- the quantities and cost of a complete choice that fits, from the choice so far and a segment of each supply function left
-abbrev pub Leaf : ℕ → List (List Segment) → List Segment → Priced → Type 0
-Leaf demand [] c d = (fits demand c ≡ true) × (d ≡ filled demand c)
-Leaf demand (ss ∷ supplies) c d = (s : Segment) × In s ss × Leaf demand supplies (s ∷ c) d
 
 -- where f brings in what L has for each segment, going through the segments brings in what L has for any of them
 module _ (L : Segment → Priced → Type 0) (f : Segment → Option Priced → Option Priced)

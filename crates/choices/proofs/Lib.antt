@@ -4,8 +4,10 @@ pub mod Certificate
 pub mod Optimal
 pub mod Accepted
 pub mod Placed
+pub mod Behind
 pub mod Leaves
 pub mod Chosen
 pub mod Divides
 pub mod Finds
+pub mod Kept
 pub mod OneInside

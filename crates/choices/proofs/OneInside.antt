@@ -9,8 +9,8 @@ use Rattle.book.specs.declared.Segment.{Segment}
 use Rattle.divisions.specs.Award.{Priced, awardOf}
 use Rattle.divisions.specs.IsAward.{insideCount}
 use Rattle.divisions.proofs.IsBest.{IsBest}
+use Rattle.choices.specs.Leaf.{Leaf}
 use Rattle.choices.proofs.Sound.{SoundSupply}
-use Rattle.choices.proofs.Leaves.{Leaf}
 use Rattle.choices.proofs.Chosen.{chosen-inside}
 use Rattle.choices.proofs.Divides.{divides}
 use Rattle.choices.proofs.Finds.{found-best, finds}

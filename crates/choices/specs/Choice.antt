@@ -17,6 +17,14 @@ abbrev pub ends : List Segment → ℕ
 ends [] = 0
 ends (s ∷ c) = s .end .0 + ends c
 
+-- the ends of a choice in book order, and then es
+abbrev pub endsThen : List Segment → List ℕ → List ℕ
+endsThen [] es = es
+endsThen (s ∷ c) es = endsThen c (s .end .0 ∷ es)
+
+abbrev pub endsInOrder : List Segment → List ℕ
+endsInOrder c = endsThen c []
+
 -- the starts add up to at most the demand, and the ends to at least it
 unfoldable pub fits : ℕ → List Segment → Bool
 fits demand c = leb (starts c) demand && leb demand (ends c)

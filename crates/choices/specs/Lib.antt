@@ -1,3 +1,5 @@
 pub mod Choice
+pub mod Chosen
+pub mod Leaf
 pub mod Search
 pub mod Sound

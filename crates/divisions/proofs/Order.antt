@@ -27,7 +27,7 @@ pub more-later : (x y : ℕ) (xs ys : List ℕ) → x ≡ y → More xs ys → M
 unfolding givesMore
 more-later x y xs ys e h = right-holds (ltb y x) _ (both-hold (eqb x y) (givesMore xs ys) (eq-eqb x y e) h)
 
-more-cases : (x y : ℕ) (xs ys : List ℕ) → More (x ∷ xs) (y ∷ ys) → (y < x) ⊎ ((x ≡ y) × More xs ys)
+pub more-cases : (x y : ℕ) (xs ys : List ℕ) → More (x ∷ xs) (y ∷ ys) → (y < x) ⊎ ((x ≡ y) × More xs ys)
 unfolding givesMore
 more-cases x y xs ys h =
     ⊎-elim

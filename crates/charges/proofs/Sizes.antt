@@ -1,0 +1,86 @@
+-- How large charges are, and the sums of a choice. Assumes nothing.
+use Prim.Native.Nat.{ℕ, _+_, _*_, _-_, _≤_}
+use native.Mathlib.Nat.{mul-le-mul}
+use native.Mathlib.Omega.{arith}
+use mathlib.Core.List.{List, [], _∷_}
+use mathlib.Core.Path.{refl}
+use lib.IntN.{natAbs}
+use lib.ListN.{length}
+use Rattle.lists.specs.All.{All}
+use Rattle.book.specs.declared.Segment.{Segment}
+use Rattle.book.specs.Rules.{priceOn}
+use Rattle.book.proofs.InRange.{mostCents, price-small}
+use Rattle.choices.specs.Choice.{starts, ends}
+use Rattle.choices.specs.Sound.{SoundSegment}
+use Rattle.charges.specs.declared.Prices.{Prices}
+use Rattle.charges.specs.declared.Sums.{Sums}
+use Rattle.charges.specs.Charge.{million, highest, mostCharge, chargeAt, charge, charges}
+use Rattle.charges.specs.Records.{Capped, ChargeableAt, SumsOf, UpTo, Small, sumsOn, sumsWith}
+
+module _ (s : Segment) (r l : ℕ) (asked : ChargeableAt s r l) where
+  pub price-size : natAbs (priceOn s r) ≤ mostCents
+  price-size = price-small s r (asked .sound .unit-high) (asked .sound .fixed-size) (asked .few)
+
+  pub rest-size : l * (million - r) ≤ highest * million
+  rest-size = let short : million - r ≤ million = omega arith in mul-le-mul (asked .capped) short
+
+pub charge-small : (demand l : ℕ) (s : Segment) → SoundSegment s → l ≤ highest → charge demand l s ≤ mostCharge
+unfolding charge chargeAt
+charge-small demand l s sound capped =
+    let asked : ChargeableAt s (s .start .0) l = record { sound = sound; few = omega (arith, sound .order, sound .end-high); capped = capped } in
+    omega (arith, price-size s (s .start .0) l asked, rest-size s (s .start .0) l asked)
+
+-- a segment of an accepted bid
+pub one-up-to : (demand : ℕ) (prices : Prices) (s : Segment) → SoundSegment s → Capped prices → UpTo 1 (sumsOn demand prices s)
+one-up-to demand prices s sound capped = record {
+  low = omega (arith, sound .order, sound .end-high);
+  high = omega (arith, sound .end-high);
+  first = omega (arith, charge-small demand (prices .first .0) s sound (capped .first));
+  second = omega (arith, charge-small demand (prices .second .0) s sound (capped .second));
+}
+
+-- over at most nine bidders nothing wraps
+pub up-to-small : (k : ℕ) (x : Sums) → k ≤ 9 → UpTo k x → Small x
+up-to-small k x h u = record { low = omega (arith, u .low); high = omega (arith, u .high); first = omega (arith, u .first); second = omega (arith, u .second) }
+
+-- A choice: its sums, and how large they are.
+
+charges-small : (demand l : ℕ) (c : List Segment) → All SoundSegment c → l ≤ highest → charges demand l c ≤ mostCharge * length c
+charges-small demand l [] sound capped = omega arith
+charges-small demand l (s ∷ c) sound capped = omega (arith, charge-small demand l s (sound .0) capped, charges-small demand l c (sound .1) capped)
+
+starts-small : (c : List Segment) → All SoundSegment c → starts c ≤ million * length c
+starts-small [] sound = omega arith
+starts-small (s ∷ c) sound = omega (arith, sound .0 .order, sound .0 .end-high, starts-small c (sound .1))
+
+ends-small : (c : List Segment) → All SoundSegment c → ends c ≤ million * length c
+ends-small [] sound = omega arith
+ends-small (s ∷ c) sound = omega (arith, sound .0 .end-high, ends-small c (sound .1))
+
+module _ (demand : ℕ) (prices : Prices) where
+  pub sums-none : SumsOf demand prices [] (record { low = record { 0 = 0 }; high = record { 0 = 0 }; first = 0; second = 0 })
+  sums-none = record { low = refl; high = refl; first = refl; second = refl }
+
+  pub sums-next : (s : Segment) (c : List Segment) (x : Sums) → SumsOf demand prices c x
+      → SumsOf demand prices (s ∷ c) (sumsWith x (sumsOn demand prices s))
+  sums-next s c x h = record { low = omega arith; high = omega arith; first = omega arith; second = omega arith }
+
+  pub sums-up-to : (k : ℕ) (c : List Segment) (x : Sums) → All SoundSegment c → Capped prices → length c ≤ k → SumsOf demand prices c x → UpTo k x
+  sums-up-to k c x sound capped few h = record {
+    low = omega (arith, starts-small c sound);
+    high = omega (arith, ends-small c sound);
+    first = omega (arith, charges-small demand (prices .first .0) c sound (capped .first));
+    second = omega (arith, charges-small demand (prices .second .0) c sound (capped .second));
+  }
+
+pub up-to-more : (j k : ℕ) (x : Sums) → j ≤ k → UpTo j x → UpTo k x
+up-to-more j k x h u = record { low = omega (arith, u .low); high = omega (arith, u .high); first = omega (arith, u .first); second = omega (arith, u .second) }
+
+-- two sums together; the one more is then let be twice
+pub up-to-with : (j k : ℕ) (x y : Sums) → UpTo j x → UpTo k y → UpTo (j + k + 1) (sumsWith x y)
+up-to-with j k x y a b = record {
+  low = omega (arith, a .low, b .low);
+  high = omega (arith, a .high, b .high);
+  first = omega (arith, a .first, b .first);
+  second = omega (arith, a .second, b .second);
+}

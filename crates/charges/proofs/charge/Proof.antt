@@ -1,0 +1,31 @@
+-- The lesser of the two, by what `charge_at` answers.
+use Prim.Native.Nat.{min}
+use mathlib.Core.Path.{ap, ap₂, _∙_}
+use borrow.Author.Needs.{needs}
+use Rattle.charges.specs.Charge.{chargeAt, charge}
+use Rattle.charges.proofs.charge.Statement.{statement}
+use Rattle.charges.proofs.charge.Tie as tie
+
+abbrev start : tie.After-smaller2 → tie.Start
+start c = c .before .before .before .before .before
+
+smaller-requires : tie.Need-smaller-requires
+smaller-requires c κs = search needs
+
+charge-at-requires : tie.Need-charge-at-requires
+charge-at-requires c κs = search needs
+
+charge-at-requires-2 : tie.Need-charge-at-requires-2
+charge-at-requires-2 c κs = search needs
+
+smaller-requires-2 : tie.Need-smaller-requires-2
+smaller-requires-2 c κs = search needs
+
+returns : tie.Need-returns
+unfolding charge
+returns c =
+    let at-end = c .before .charge-at2 .ensures ∙ ap (chargeAt (start c .args .price .0) (start c .args .s)) (c .before .before .before .smaller .ensures) in
+    c .smaller2 .ensures ∙ ap₂ min (c .before .before .charge-at .ensures) at-end
+
+pub charge-spec : {M : Type 1} → statement M
+charge-spec = tie.close (tie.spec smaller-requires charge-at-requires charge-at-requires-2 smaller-requires-2 returns)

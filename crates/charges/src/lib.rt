@@ -1,0 +1,88 @@
+// What segments are charged by a price of a blank, and sums of it: by these the search bounds what a division costs. A charge is no
+// price that anyone pays; it is a plain number, so that it cannot be taken for one.
+ghost use mathlib.Core.Path.{_≡_};
+ghost use Prim.Native.Nat.{min};
+ghost use Rattle.charges.specs.Charge.{chargeAt, charge};
+ghost use Rattle.charges.specs.Records.{ChargeableAt, Chargeable, ChargeableBy, Addable, sumsOn, sumsWith};
+use book::Segment;
+use money::Blanks;
+use money::CentsPerBlank;
+
+// Two prices of a blank. Any will do: they only make the search faster.
+pub struct Prices {
+    pub first: CentsPerBlank,
+    pub second: CentsPerBlank,
+}
+
+// Over some bidders: the sums of the starts and of the ends of their segments, and of what these are charged by the two prices.
+pub struct Sums {
+    pub low: Blanks,
+    pub high: Blanks,
+    pub first: u64,
+    pub second: u64,
+}
+
+// The smaller of two numbers. It is pub for the other crates that bound the search.
+pub fn smaller(a: u64, b: u64) -> u64
+    ensures { λ r. ⌜ r ≡ min a b ⌝ }
+{
+    if b < a {
+        return b;
+    }
+    a
+}
+
+// What a quantity on a segment is charged.
+fn charge_at(s: Segment, quantity: Blanks, price: CentsPerBlank) -> u64
+    requires { ⌜ ChargeableAt s (quantity .0) (price .0) ⌝ }
+    ensures { λ r. ⌜ r ≡ chargeAt (price .0) s (quantity .0) ⌝ }
+{
+    let unit = s.unit;
+    let fixed = s.fixed;
+    let cents = money::magnitude(money::price(unit, quantity, fixed));
+    cents + price.0 * (1000000 - quantity.0)
+}
+
+// What a segment is charged: as its start or its end, whichever is less. It is pub for the hints.
+pub fn charge(s: Segment, demand: Blanks, price: CentsPerBlank) -> u64
+    requires { ⌜ Chargeable s (price .0) ⌝ }
+    ensures { λ r. ⌜ r ≡ charge (demand .0) (price .0) s ⌝ }
+{
+    let start = s.start;
+    let end = Blanks(smaller(s.end.0, demand.0));
+    let at_start = charge_at(s, start, price);
+    let at_end = charge_at(s, end, price);
+    smaller(at_start, at_end)
+}
+
+// The sums of one segment. It is pub, as `plus` is, for the search and for what is worked out before it.
+pub fn charged(s: Segment, demand: Blanks, prices: Prices) -> Sums
+    requires { ⌜ ChargeableBy s prices ⌝ }
+    ensures { λ r. ⌜ r ≡ sumsOn (demand .0) prices s ⌝ }
+{
+    let low = s.start;
+    let high = s.end;
+    let a = prices.first;
+    let b = prices.second;
+    let first = charge(s, demand, a);
+    let second = charge(s, demand, b);
+    Sums {
+        low,
+        high,
+        first,
+        second,
+    }
+}
+
+// Two sums together.
+pub fn plus(x: Sums, y: Sums) -> Sums
+    requires { ⌜ Addable x y ⌝ }
+    ensures { λ r. ⌜ r ≡ sumsWith x y ⌝ }
+{
+    Sums {
+        low: Blanks(x.low.0 + y.low.0),
+        high: Blanks(x.high.0 + y.high.0),
+        first: x.first + y.first,
+        second: x.second + y.second,
+    }
+}
