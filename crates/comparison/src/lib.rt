@@ -15,8 +15,9 @@ pub struct MaybeDivision {
     pub quantities: [Blanks; 8],
 }
 
-// Whether a gives more than b to the first of n bidders at whom the two differ.
-fn gives_more(a: [Blanks; 8], b: [Blanks; 8], n: usize) -> bool
+// Whether a gives more than b to the first of n bidders at whom the two differ. It is pub for the search's
+// test of ties.
+pub fn gives_more(a: [Blanks; 8], b: [Blanks; 8], n: usize) -> bool
     requires { ⌜ n ≤ 8 ⌝ }
     ensures { λ r. ⌜ r ≡ givesMore (take n (blanksIn a)) (take n (blanksIn b)) ⌝ }
 {

@@ -1,6 +1,5 @@
 -- The search, a step at a time. Assumes nothing.
 use Prim.Native.Nat.{ℕ, suc, _+_, _≤_, _<_}
-use native.Mathlib.Numerals.{add-one}
 use native.Mathlib.Omega.{arith}
 use mathlib.Core.Bool.{true, false}
 use mathlib.Core.List.{List, [], _∷_, map}
@@ -9,24 +8,30 @@ use mathlib.Core.Path.{_≡_, ap, subst, _∙_}
 use lib.ListN.{length, getD, set, take, drop, length-map, List·getD-map, length-take, drop-of-length-le}
 use lib.Seq.{drop-cons}
 use Rattle.lists.proofs.Latest.{latest-none, latest-set}
+use Rattle.lists.proofs.Slices.{drop-next}
 use Rattle.book.specs.declared.Segment.{Segment}
 use Rattle.book.specs.declared.Bid.{Bid}
+use Rattle.book.specs.declared.Book.{Book}
 use Rattle.book.specs.Entries.{BidEntries, bidEntries}
+use Rattle.book.specs.Accepted.{AcceptedBid}
 use Rattle.book.proofs.Records.{noBid}
+use Rattle.book.proofs.Accepted.{accepted-at}
 use Rattle.book.proofs.Bids.{length-entries, entry-at}
 use Rattle.supply.specs.Supply.{segment0, supplyOf, suppliesOf}
 use Rattle.divisions.specs.Award.{Priced, pick}
 use Rattle.choices.specs.Choice.{fits, filled}
 use Rattle.choices.specs.Search.{each, leaf, search, searched}
 use Rattle.choices.specs.Sound.{SoundSegment}
+use Rattle.choices.proofs.Accepted.{sound-segment-at}
 use Rattle.comparison.specs.declared.MaybeDivision.{MaybeDivision}
 use Rattle.comparison.specs.Records.{found}
 use Rattle.meritorder.specs.declared.Choice.{Choice}
 use Rattle.meritorder.specs.Records.{chosen, Sound}
+use Rattle.search.specs.Searchable.{Choosable, ChoiceOf}
 
 -- A choice: none yet, and one with a segment more.
 
-nothing-chosen : (c : Choice) → c .count ≡ 0 → chosen c ≡ []
+pub nothing-chosen : (c : Choice) → c .count ≡ 0 → chosen c ≡ []
 nothing-chosen c e = rw e (latest-none segment0 (c .segments))
 
 pub sound-nothing : (ss : List Segment) → Sound (record { count = 0; segments = ss })
@@ -75,18 +80,7 @@ module _ (f : Segment → Option Priced → Option Priced) (ss : List Segment) (
 abbrev pub tried : ℕ → List (List Segment) → List Segment → Segment → Option Priced → Option Priced
 tried demand supplies c s = search demand supplies (s ∷ c)
 
--- The bidders from `at` on.
-module _ (demand : ℕ) (supplies : List (List Segment)) (at : ℕ) (c : List Segment) (o : Option Priced) where
-  search-done : length supplies ≤ at → search demand (drop at supplies) c o ≡ leaf demand c o
-  unfolding search
-  search-done h = rw (drop-of-length-le supplies h)
-
-  search-next : (ss d : List Segment) → at < length supplies → getD supplies at d ≡ ss
-      → search demand (drop at supplies) c o ≡ each (tried demand (drop (at + 1) supplies) c) ss o
-  unfolding search
-  search-next ss d h e = rw (drop-cons supplies at d h, e, add-one)
-
--- The supply functions of a book's bids.
+-- The supply functions of a book's bids, from a bidder on.
 module _ (bids : List Bid) (n : ℕ) (held : n ≤ length bids) where
   abbrev entries : List BidEntries
   entries = map bidEntries (take n bids)
@@ -97,21 +91,46 @@ module _ (bids : List Bid) (n : ℕ) (held : n ≤ length bids) where
   supply-at : (i : ℕ) → i < n → getD (suppliesOf entries) i (supplyOf (bidEntries noBid)) ≡ supplyOf (bidEntries (getD bids i noBid))
   supply-at i h = List·getD-map supplyOf entries i (bidEntries noBid) ∙ ap supplyOf (entry-at bids n held i h)
 
+  pub supplies-done : (at : ℕ) → n ≤ at → drop at (suppliesOf entries) ≡ []
+  supplies-done at h = let l : length (suppliesOf entries) ≤ at = rw length-supplies h in drop-of-length-le (suppliesOf entries) l
+
+  pub supplies-next : (at : ℕ) → at < n
+      → drop at (suppliesOf entries) ≡ supplyOf (bidEntries (getD bids at noBid)) ∷ drop (at + 1) (suppliesOf entries)
+  supplies-next at h =
+      let l : at < length (suppliesOf entries) = rw length-supplies h in
+      drop-next (suppliesOf entries) at (supplyOf (bidEntries noBid)) l ∙ rw (supply-at at h)
+
   module _ (demand at : ℕ) (c : List Segment) (o : Option Priced) where
     pub bidders-done : n ≤ at → search demand (drop at (suppliesOf entries)) c o ≡ leaf demand c o
-    bidders-done h = search-done demand (suppliesOf entries) at c o (omega (arith, length-supplies))
+    unfolding search
+    bidders-done h = rw (supplies-done at h)
 
     pub bidders-next : at < n
         → search demand (drop at (suppliesOf entries)) c o
         ≡ each (tried demand (drop (at + 1) (suppliesOf entries)) c) (supplyOf (bidEntries (getD bids at noBid))) o
-    bidders-next h =
-        let l : at < length (suppliesOf entries) = rw length-supplies h in
-        search-next demand (suppliesOf entries) at c o _ (supplyOf (bidEntries noBid)) l (supply-at at h)
+    unfolding search
+    bidders-next h = rw (supplies-next at h)
 
 -- Of a bid, segment 0 and those that it counts.
 module _ (b : Bid) where
   pub few-segments : length (supplyOf (bidEntries b)) ≤ b .count + 1
   few-segments = rw length-take (omega arith)
+
+-- A choice for the first bidders of a book, and the bidder after them.
+module _ {book : Book} {c : Choice} (asked : ChoiceOf book c) (further : c .count < book .count) where
+  pub not-full : c .count < 8
+  not-full = omega (arith, asked .searchable .few)
+
+  module _ (held : book .count ≤ length (book .bids)) where
+    abbrev bidder : BidEntries
+    bidder = bidEntries (getD (book .bids) (c .count) noBid)
+
+    pub accepted-next : AcceptedBid bidder
+    accepted-next = accepted-at (book .bids) (book .count) held (asked .searchable .bids) (c .count) further
+
+    pub choosable : (j : ℕ) (s : Segment) → j < length (supplyOf bidder) → s ≡ getD (supplyOf bidder) j segment0 → Choosable c s
+    choosable j s h e =
+        record { choice = asked .choice; segment = rw e (sound-segment-at bidder accepted-next j h); not-full = not-full }
 
 -- The search from no choice and no division.
 pub from-nothing : (demand : ℕ) (supplies : List (List Segment)) (n : ℕ) (c : Choice) (best : MaybeDivision) → c .count ≡ 0 → best .found ≡ false

@@ -1,1 +1,2 @@
+pub mod ChosenFrom
 pub mod Searchable

@@ -11,6 +11,10 @@ ghost use Rattle.choices.specs.Search.{leaf, search};
 ghost use Rattle.comparison.specs.Records.{found};
 ghost use Rattle.meritorder.specs.Records.{chosen, Sound};
 ghost use Rattle.search.specs.Searchable.{Searchable, Choosable, ChoiceOf};
+
+mod behind;
+mod first;
+
 use book::Book;
 use book::Segment;
 use comparison::MaybeDivision;

@@ -11,13 +11,11 @@ use Rattle.book.specs.declared.Bid.{Bid}
 use Rattle.book.specs.Entries.{bidEntries, bookEntries}
 use Rattle.book.specs.Accepted.{AcceptedBid}
 use Rattle.book.proofs.Records.{noBid}
-use Rattle.book.proofs.Accepted.{accepted-at}
 use Rattle.supply.specs.Supply.{supplyOf, suppliesOf}
 use Rattle.choices.specs.Search.{each, leaf}
-use Rattle.choices.proofs.Accepted.{sound-segment-at}
 use Rattle.comparison.specs.Records.{found}
 use Rattle.meritorder.specs.Records.{chosen}
-use Rattle.search.proofs.Steps.{for-all, each-none, each-next, each-all, tried, bidders-done, bidders-next, few-segments}
+use Rattle.search.proofs.Steps.{for-all, each-none, each-next, each-all, tried, bidders-done, bidders-next, few-segments, not-full, accepted-next, choosable}
 use Rattle.search.proofs.search.Reads as search′
 use Rattle.search.proofs.search.Kinds as search-kinds
 use Rattle.search.proofs.+search.Lts-search as search-lts
@@ -74,17 +72,11 @@ held t s =
 further : (t : ℕ) (c : Bidder t) → c .before .args .c .count < c .before .args .t1 .count
 further t c = omega (arith, c .before .pre .1 .within, c .if1 .left)
 
-not-full : (t : ℕ) (c : Bidder t) → c .before .args .c .count < 8
-not-full t c = omega (arith, further t c, c .before .pre .1 .searchable .few)
-
 abbrev bid : (t : ℕ) → Bidder t → Bid
 bid t c = getD (c .before .args .t1 .bids) (c .before .args .c .count) noBid
 
 accepted : (t : ℕ) (c : Bidder t) → AcceptedBid (bidEntries (bid t c))
-accepted t c =
-    let s = c .before in
-    let book = s .args .t1 in
-    accepted-at (book .bids) (book .count) (held t s) (s .pre .1 .searchable .bids) (s .args .c .count) (further t c)
+accepted t c = accepted-next (c .before .pre .1) (further t c) (held t (c .before))
 
 -- The bidder, seen from a turn.
 abbrev Turn : ℕ → Type 0
@@ -114,10 +106,8 @@ search-segment-of-requires t c κs =
 search-choose-requires : (t : ℕ) → search-lts.Need-choose-requires (R t) (search-at t) search′.Post search-Inv-loop search-μ-loop
 search-choose-requires t c κs =
     let e = bidder t (c .before) in
-    let s = e .before in
     let tried-next = c .segment-of .ensures in
-    let sound = sound-segment-at (bidEntries (bid t e)) (accepted t e) _ (tried-next .0) in
-    record { choice = s .pre .1 .choice; segment = rw (tried-next .1) sound; not-full = not-full t e }
+    choosable (e .before .pre .1) (further t e) (held t (e .before)) _ _ (tried-next .0) (tried-next .1)
 
 search-search-requires : (t : ℕ) → search-lts.Need-search-requires (R t) (search-at t) search′.Post search-Inv-loop search-μ-loop
 search-search-requires t c κs =
@@ -162,8 +152,8 @@ pub +search-spec : {M : Type 1} → statement M
     (λ c. search needs)
     (λ c κs. c .before .before .pre .1 .choice)
     (search-returns t)
-    (λ c. omega (arith, not-full t c))
-    (λ c. not-full t c)
+    (λ c. omega (arith, not-full (c .before .pre .1) (further t c)))
+    (λ c. not-full (c .before .pre .1) (further t c))
     (λ c. omega (arith, accepted t (c .before .before) .count-high))
     (search-loop-holds t)
     (λ c. search needs)

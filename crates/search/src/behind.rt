@@ -1,0 +1,37 @@
+// Whether a division wins every tie against a choice.
+ghost use mathlib.Core.Path.{_≡_};
+ghost use lib.ListN.{take};
+ghost use Rattle.divisions.specs.Award.{givesMore};
+ghost use Rattle.choices.specs.Choice.{endsInOrder};
+ghost use Rattle.comparison.specs.Records.{blanksIn};
+ghost use Rattle.meritorder.specs.Records.{chosen, Sound};
+use comparison::MaybeDivision;
+use meritorder::Choice;
+use money::Blanks;
+
+// The ends of the chosen segments, in book order.
+fn ends(c: Choice) -> [Blanks; 8]
+    requires { ⌜ Sound c ⌝ }
+    ensures { λ r. ⌜ take (c .count) (blanksIn r) ≡ endsInOrder (chosen c) ⌝ }
+{
+    let mut all = [Blanks(0); 8];
+    let mut i: usize = 0;
+    while i < c.count {
+        let s = c.segments[i];
+        all[i] = Blanks(s.end.0);
+        i += 1;
+    }
+    all
+}
+
+// Whether a division gives more than the ends of a choice to the first of its bidders at whom they
+// differ: then it gives more than every division of the choice. It is pub for the search's test of ties.
+pub fn behind(c: Choice, best: MaybeDivision) -> bool
+    requires { ⌜ Sound c ⌝ }
+    ensures { λ r. ⌜ r ≡ givesMore (take (c .count) (blanksIn (best .quantities))) (endsInOrder (chosen c)) ⌝ }
+{
+    let n = c.count;
+    let quantities = best.quantities;
+    let high = ends(c);
+    comparison::gives_more(quantities, high, n)
+}
