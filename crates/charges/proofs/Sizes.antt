@@ -4,6 +4,7 @@ use native.Mathlib.Nat.{mul-le-mul}
 use native.Mathlib.Omega.{arith}
 use mathlib.Core.List.{List, [], _∷_}
 use mathlib.Core.Path.{refl}
+use mathlib.Core.Path.{_≡_}
 use lib.IntN.{natAbs}
 use lib.ListN.{length}
 use Rattle.lists.specs.All.{All}
@@ -15,7 +16,7 @@ use Rattle.choices.specs.Sound.{SoundSegment}
 use Rattle.charges.specs.declared.Prices.{Prices}
 use Rattle.charges.specs.declared.Sums.{Sums}
 use Rattle.charges.specs.Charge.{million, highest, mostCharge, chargeAt, charge, charges}
-use Rattle.charges.specs.Records.{Capped, ChargeableAt, SumsOf, UpTo, Small, sumsOn, sumsWith}
+use Rattle.charges.specs.Records.{Capped, ChargeableAt, SumsOf, UpTo, Small, noSums, sumsOn, sumsWith}
 
 module _ (s : Segment) (r l : ℕ) (asked : ChargeableAt s r l) where
   pub price-size : natAbs (priceOn s r) ≤ mostCents
@@ -58,7 +59,7 @@ ends-small [] sound = omega arith
 ends-small (s ∷ c) sound = omega (arith, sound .0 .end-high, ends-small c (sound .1))
 
 module _ (demand : ℕ) (prices : Prices) where
-  pub sums-none : SumsOf demand prices [] (record { low = record { 0 = 0 }; high = record { 0 = 0 }; first = 0; second = 0 })
+  pub sums-none : SumsOf demand prices [] noSums
   sums-none = record { low = refl; high = refl; first = refl; second = refl }
 
   pub sums-next : (s : Segment) (c : List Segment) (x : Sums) → SumsOf demand prices c x
@@ -84,3 +85,7 @@ up-to-with j k x y a b = record {
   first = omega (arith, a .first, b .first);
   second = omega (arith, a .second, b .second);
 }
+
+-- with a segment more, of which the end is counted
+pub more-up-to : (k left : ℕ) (x y : Sums) → left ≡ k + 1 → UpTo k x → UpTo 1 y → y .high .0 ≤ million → UpTo left (sumsWith x y)
+more-up-to k left x y e u v high = omega arith

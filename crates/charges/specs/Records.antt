@@ -39,6 +39,10 @@ sumsOn demand prices s = record {
   second = charge demand (prices .second .0) s;
 }
 
+-- the sums of nobody
+abbrev pub noSums : Sums
+noSums = record { low = record { 0 = 0 }; high = record { 0 = 0 }; first = 0; second = 0 }
+
 -- two sums together
 abbrev pub sumsWith : Sums → Sums → Sums
 sumsWith x y = record {

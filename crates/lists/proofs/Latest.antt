@@ -5,7 +5,7 @@ use native.Mathlib.Numerals.{add-one}
 use native.Mathlib.Decide.{decLt}
 use native.Mathlib.Omega.{arith}
 use mathlib.Core.List.{List, [], _∷_}
-use mathlib.Core.Path.{_≡_, refl, _∙_, subst}
+use mathlib.Core.Path.{_≡_, refl, ap, _∙_, subst}
 use lib.ListN.{length, getD, set}
 use lib.Seq.{getD-set-same, getD-set-other}
 use Rattle.lists.specs.All.{All}
@@ -19,6 +19,11 @@ module _ {A : Type 0} (d : A) where
   pub latest-next : (xs : List A) (n : ℕ) → latest d xs (suc n) ≡ getD xs n d ∷ latest d xs n
   unfolding latest
   latest-next xs n = refl
+
+  pub length-latest : (xs : List A) (n : ℕ) → length (latest d xs n) ≡ n
+  unfolding latest
+  length-latest xs zero = refl
+  length-latest xs (suc n) = ap suc (length-latest xs n)
 
   -- a store at n or past it changes none of the first n
   latest-kept : (xs : List A) (i : ℕ) (x : A) (n : ℕ) → n ≤ i → latest d (set xs i x) n ≡ latest d xs n

@@ -1,8 +1,10 @@
 -- What the code's tests, `&&` and `||` tell. Assumes nothing.
+use Prim.Native.Nat.{ℕ}
 use mathlib.Core.Bool.{Bool, true, false, not, _&&_, _||_, false≢true}
 use mathlib.Core.Logic.{_⊎_, inl, inr}
 use mathlib.Core.Path.{_≡_, refl, sym, _∙_}
-use borrow.Author.Tests.{not-true, not-false}
+use borrow.Author.Tests.{not-true, not-false, eqb-true, eqb-false}
+use lib.Dec.{eqb}
 
 -- a call's answer r is the test t; the code went on, or turned away, by `!r`
 pub passed : {r t : Bool} → r ≡ t → not r ≡ false → t ≡ true
@@ -44,3 +46,11 @@ neither-left true b e = e
 pub neither-right : (a b : Bool) → a || b ≡ false → b ≡ false
 neither-right false b e = e
 neither-right true b e = absurd (false≢true (sym e))
+
+-- by cases of whether two numbers are the same
+pub same-or-not : {P : Type 0} (a b : ℕ) → (a ≡ b → P) → ((a ≡ b → ⊥) → P) → P
+same-or-not {P} a b same different = go (eqb a b) refl
+  where
+    go : (t : Bool) → eqb a b ≡ t → P
+    go true e = same (eqb-true a b e)
+    go false e = different (eqb-false a b e)

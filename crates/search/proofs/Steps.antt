@@ -5,10 +5,9 @@ use mathlib.Core.Bool.{true, false}
 use mathlib.Core.List.{List, [], _∷_, map}
 use mathlib.Core.Option.{Option}
 use mathlib.Core.Path.{_≡_, ap, subst, _∙_}
-use lib.ListN.{length, getD, set, take, drop, length-map, List·getD-map, length-take, drop-of-length-le}
+use lib.ListN.{length, getD, set, take, drop, drop-of-length-le}
 use lib.Seq.{drop-cons}
 use Rattle.lists.proofs.Latest.{latest-none, latest-set}
-use Rattle.lists.proofs.Slices.{drop-next}
 use Rattle.book.specs.declared.Segment.{Segment}
 use Rattle.book.specs.declared.Bid.{Bid}
 use Rattle.book.specs.declared.Book.{Book}
@@ -16,11 +15,11 @@ use Rattle.book.specs.Entries.{BidEntries, bidEntries}
 use Rattle.book.specs.Accepted.{AcceptedBid}
 use Rattle.book.proofs.Records.{noBid}
 use Rattle.book.proofs.Accepted.{accepted-at}
-use Rattle.book.proofs.Bids.{length-entries, entry-at}
 use Rattle.supply.specs.Supply.{segment0, supplyOf, suppliesOf}
+use Rattle.supply.proofs.Supplies.{supplies-done, supplies-next}
 use Rattle.divisions.specs.Award.{Priced, pick}
 use Rattle.choices.specs.Choice.{fits, filled}
-use Rattle.choices.specs.Search.{each, leaf, search, searched}
+use Rattle.choices.specs.Search.{each, leaf, search}
 use Rattle.choices.specs.Sound.{SoundSegment}
 use Rattle.choices.proofs.Accepted.{sound-segment-at}
 use Rattle.comparison.specs.declared.MaybeDivision.{MaybeDivision}
@@ -80,41 +79,21 @@ module _ (f : Segment → Option Priced → Option Priced) (ss : List Segment) (
 abbrev pub tried : ℕ → List (List Segment) → List Segment → Segment → Option Priced → Option Priced
 tried demand supplies c s = search demand supplies (s ∷ c)
 
--- The supply functions of a book's bids, from a bidder on.
+-- The bidders from `at` on.
 module _ (bids : List Bid) (n : ℕ) (held : n ≤ length bids) where
   abbrev entries : List BidEntries
   entries = map bidEntries (take n bids)
 
-  length-supplies : length (suppliesOf entries) ≡ n
-  length-supplies = length-map entries supplyOf ∙ length-entries bids n held
-
-  supply-at : (i : ℕ) → i < n → getD (suppliesOf entries) i (supplyOf (bidEntries noBid)) ≡ supplyOf (bidEntries (getD bids i noBid))
-  supply-at i h = List·getD-map supplyOf entries i (bidEntries noBid) ∙ ap supplyOf (entry-at bids n held i h)
-
-  pub supplies-done : (at : ℕ) → n ≤ at → drop at (suppliesOf entries) ≡ []
-  supplies-done at h = let l : length (suppliesOf entries) ≤ at = rw length-supplies h in drop-of-length-le (suppliesOf entries) l
-
-  pub supplies-next : (at : ℕ) → at < n
-      → drop at (suppliesOf entries) ≡ supplyOf (bidEntries (getD bids at noBid)) ∷ drop (at + 1) (suppliesOf entries)
-  supplies-next at h =
-      let l : at < length (suppliesOf entries) = rw length-supplies h in
-      drop-next (suppliesOf entries) at (supplyOf (bidEntries noBid)) l ∙ rw (supply-at at h)
-
   module _ (demand at : ℕ) (c : List Segment) (o : Option Priced) where
     pub bidders-done : n ≤ at → search demand (drop at (suppliesOf entries)) c o ≡ leaf demand c o
     unfolding search
-    bidders-done h = rw (supplies-done at h)
+    bidders-done h = rw (supplies-done bids n held at h)
 
     pub bidders-next : at < n
         → search demand (drop at (suppliesOf entries)) c o
         ≡ each (tried demand (drop (at + 1) (suppliesOf entries)) c) (supplyOf (bidEntries (getD bids at noBid))) o
     unfolding search
-    bidders-next h = rw (supplies-next at h)
-
--- Of a bid, segment 0 and those that it counts.
-module _ (b : Bid) where
-  pub few-segments : length (supplyOf (bidEntries b)) ≤ b .count + 1
-  few-segments = rw length-take (omega arith)
+    bidders-next h = rw (supplies-next bids n held at h)
 
 -- A choice for the first bidders of a book, and the bidder after them.
 module _ {book : Book} {c : Choice} (asked : ChoiceOf book c) (further : c .count < book .count) where
@@ -131,8 +110,3 @@ module _ {book : Book} {c : Choice} (asked : ChoiceOf book c) (further : c .coun
     pub choosable : (j : ℕ) (s : Segment) → j < length (supplyOf bidder) → s ≡ getD (supplyOf bidder) j segment0 → Choosable c s
     choosable j s h e =
         record { choice = asked .choice; segment = rw e (sound-segment-at bidder accepted-next j h); not-full = not-full }
-
--- The search from no choice and no division.
-pub from-nothing : (demand : ℕ) (supplies : List (List Segment)) (n : ℕ) (c : Choice) (best : MaybeDivision) → c .count ≡ 0 → best .found ≡ false
-    → search demand (drop (c .count) supplies) (chosen c) (found n best) ≡ searched demand supplies
-from-nothing demand supplies n c best e f = rw (nothing-chosen c e, e, f)

@@ -1,5 +1,6 @@
 -- For the contracts of this crate: what the search and its steps ask of a book and of a choice.
-use Prim.Native.Nat.{_≤_, _<_}
+use Prim.Native.Nat.{ℕ, _≤_, _<_}
+use mathlib.Core.List.{List}
 use Rattle.lists.specs.All.{All}
 use Rattle.book.specs.declared.Segment.{Segment}
 use Rattle.book.specs.declared.Book.{Book}
@@ -7,7 +8,11 @@ use Rattle.book.specs.Entries.{BookEntries, bookEntries}
 use Rattle.book.specs.Accepted.{AcceptedBid}
 use Rattle.choices.specs.Sound.{SoundSegment}
 use Rattle.meritorder.specs.declared.Choice.{Choice}
-use Rattle.meritorder.specs.Records.{Sound}
+use Rattle.meritorder.specs.Records.{chosen, Sound}
+use Rattle.charges.specs.declared.Prices.{Prices}
+use Rattle.charges.specs.declared.Sums.{Sums}
+use Rattle.charges.specs.Records.{Capped, SumsOf}
+use Rattle.completions.specs.Classes.{Graded, Surveyed}
 
 -- what the search asks of a book: accepted books have it, and so have the books less a bid
 pub record Searchable (b : BookEntries) : Type 0 where
@@ -20,8 +25,24 @@ pub record Choosable (c : Choice) (s : Segment) : Type 0 where
   pub segment : SoundSegment s
   pub not-full : c .count < 8
 
--- what `search` asks: a book, and a choice for the first of its bidders, for none or for all
+-- a book, and a choice for the first of its bidders, for none or for all
 pub record ChoiceOf (book : Book) (c : Choice) : Type 0 where
   pub searchable : Searchable (bookEntries book)
   pub choice : Sound c
   pub within : c .count ≤ book .count
+
+-- what `lost` asks: a choice for the first of n bidders with its sums, and a table of classes
+pub record Testing (demand n : ℕ) (prices : Prices) (table : List ℕ) (c : Choice) (sums : Sums) : Type 0 where
+  pub few : n ≤ 8
+  pub within : c .count ≤ n
+  pub choice : Sound c
+  pub capped : Capped prices
+  pub graded : Graded table
+  pub sums-of : SumsOf demand prices (chosen c) sums
+
+-- what `search` asks: a book, a choice for the first of its bidders, for none or for all, with its sums, and the classes of the others
+pub record Searching (book : Book) (prices : Prices) (table : List ℕ) (c : Choice) (sums : Sums) : Type 0 where
+  pub choice-of : ChoiceOf book c
+  pub capped : Capped prices
+  pub surveyed : Surveyed book prices table
+  pub sums-of : SumsOf (book .demand .0) prices (chosen c) sums

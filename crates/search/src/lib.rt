@@ -1,6 +1,6 @@
 // The search for the best division of a book, through every choice of a segment for each bidder.
 ghost use mathlib.Core.Path.{_≡_};
-ghost use mathlib.Core.Bool.{false};
+ghost use mathlib.Core.Bool.{true, false};
 ghost use mathlib.Core.List.{_∷_};
 ghost use Prim.Native.Nat.{_+_};
 ghost use lib.ListN.{drop};
@@ -10,13 +10,16 @@ ghost use Rattle.divisions.specs.Award.{awardOf};
 ghost use Rattle.choices.specs.Search.{leaf, search};
 ghost use Rattle.comparison.specs.Records.{found};
 ghost use Rattle.meritorder.specs.Records.{chosen, Sound};
-ghost use Rattle.search.specs.Searchable.{Searchable, Choosable, ChoiceOf};
+ghost use Rattle.hopeless.specs.Hopeless.{GivesMore, NothingBetter};
+ghost use Rattle.search.specs.Searchable.{Searchable, Choosable, Testing, Searching};
 
 mod behind;
 mod first;
 
 use book::Book;
 use book::Segment;
+use charges::Prices;
+use charges::Sums;
 use comparison::MaybeDivision;
 use meritorder::Choice;
 use money::Blanks;
@@ -50,17 +53,49 @@ fn choose(c: Choice, s: Segment) -> Choice
     next
 }
 
+// Whether every division of a choice costs as much as the best so far at least, and loses each tie.
+fn lost(
+    table: &[u64; 1152],
+    demand: Blanks,
+    n: usize,
+    prices: Prices,
+    c: Choice,
+    sums: Sums,
+    best: MaybeDivision,
+) -> bool
+    requires { ⌜ Testing (demand .0) n prices (now table) c sums ⌝ }
+    ensures { λ r. ⌜ (r ≡ true → GivesMore (chosen c) best) ⌝ }
+    ensures { λ r. ⌜ (r ≡ true → NothingBetter (demand .0) n prices (now (table .entry)) (c .count) sums true best) ⌝ }
+{
+    if !behind::behind(c, best) {
+        return false;
+    }
+    let at = c.count;
+    hopeless::hopeless(table, at, demand, n, prices, sums, true, best)
+}
+
 // A segment is chosen for the next bidder, each in turn from its last to segment 0, and the search
-// calls itself for the bidders after it; after the last the choice is complete. It returns the best
-// division so far.
-fn search(book: Book, c: Choice, best: MaybeDivision) -> MaybeDivision
-    requires { ⌜ ChoiceOf book c ⌝ }
+// calls itself for the bidders after it, unless nothing better can be found there; after the last the
+// choice is complete. It returns the best division so far.
+fn search(
+    book: Book,
+    table: &[u64; 1152],
+    prices: Prices,
+    c: Choice,
+    sums: Sums,
+    best: MaybeDivision,
+) -> MaybeDivision
+    requires { ⌜ Searching book prices (now table) c sums ⌝ }
     ensures { λ r. ⌜ found (book .count) r ≡ search (book .demand .0) (drop (c .count) (suppliesOf (bookEntries book .bids))) (chosen c) (found (book .count) best) ⌝ }
 {
+    let demand = book.demand;
+    let n = book.count;
+    if lost(table, demand, n, prices, c, sums, best) {
+        return best;
+    }
     let at = c.count;
-    let left = book.count - at;
+    let left = n - at;
     if left == 0 {
-        let demand = book.demand;
         return leaf(demand, c, best);
     }
     let bid = book.bids[at];
@@ -69,8 +104,11 @@ fn search(book: Book, c: Choice, best: MaybeDivision) -> MaybeDivision
     while 0 < j {
         j -= 1;
         let s = supply::segment_of(bid, j);
-        let next = choose(c, s);
-        so_far = search(book, next, so_far);
+        let more = charges::plus(sums, charges::charged(s, demand, prices));
+        if !hopeless::hopeless(table, at + 1, demand, n, prices, more, false, so_far) {
+            let next = choose(c, s);
+            so_far = search(book, table, prices, next, more, so_far);
+        }
     }
     so_far
 }
@@ -107,5 +145,21 @@ pub fn best_division(book: Book) -> MaybeDivision
     requires { ⌜ Searchable (bookEntries book) ⌝ }
     ensures { λ r. ⌜ found (book .count) r ≡ awardOf (book .demand .0) (suppliesOf (bookEntries book .bids)) ⌝ }
 {
-    search(book, no_choice(), no_division())
+    let price = hints::balance(book);
+    let numbers = hints::favourites(book, price);
+    let start = first::first(book, numbers);
+    let second = hints::second_price(book, start, price);
+    let prices = Prices {
+        first: price,
+        second,
+    };
+    let mut table = [0u64; 1152];
+    completions::survey(&mut table, book, prices);
+    let none = Sums {
+        low: Blanks(0),
+        high: Blanks(0),
+        first: 0,
+        second: 0,
+    };
+    search(book, &table, prices, no_choice(), none, start)
 }

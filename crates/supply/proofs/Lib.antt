@@ -2,3 +2,4 @@ pub mod Places
 pub mod Offers
 pub mod OneSegment
 pub mod Numbers
+pub mod Supplies

@@ -1,46 +1,72 @@
--- The best so far is that of the segments tried, each with every choice for the bidders after, of whom there is one fewer.
+-- The best so far is that of the segments tried, each with every choice for the bidders after, of whom there is one fewer; where a segment
+-- is passed over, the search with it would leave the best so far as it is.
 use Prim.Native.Nat.{ℕ, suc, _+_, _-_, _≤_, _<_}
 use native.Mathlib.Omega.{arith}
-use mathlib.Core.Path.{_≡_, sym, _∙_}
+use mathlib.Core.Bool.{true, false, false≢true}
+use mathlib.Core.List.{List, _∷_}
+use mathlib.Core.Path.{_≡_, sym, ap, _∙_, subst}
 use borrow.Author.Needs.{needs}
+use borrow.Author.Tests.{not-false}
 use borrow.Fn.Kinds.{In}
 use borrow.Fn.PlainCycle.{Measures, is, falls, and}
 use lib.ListN.{length, getD, drop}
+use Rattle.lists.specs.All.{All}
 use Rattle.lists.proofs.Slices.{length-held}
 use Rattle.book.specs.declared.Bid.{Bid}
+use Rattle.book.specs.declared.Segment.{Segment}
 use Rattle.book.specs.Entries.{bidEntries, bookEntries}
 use Rattle.book.specs.Accepted.{AcceptedBid}
 use Rattle.book.proofs.Records.{noBid}
-use Rattle.supply.specs.Supply.{supplyOf, suppliesOf}
+use Rattle.supply.specs.Supply.{segment0, supplyOf, suppliesOf}
+use Rattle.supply.proofs.Supplies.{few-segments}
 use Rattle.choices.specs.Search.{each, leaf}
+use Rattle.choices.specs.Sound.{SoundSegment}
+use Rattle.choices.proofs.Accepted.{sound-segment-at}
+use Rattle.comparison.specs.declared.MaybeDivision.{MaybeDivision}
 use Rattle.comparison.specs.Records.{found}
 use Rattle.meritorder.specs.Records.{chosen}
-use Rattle.search.proofs.Steps.{for-all, each-none, each-next, each-all, tried, bidders-done, bidders-next, few-segments, not-full, accepted-next, choosable}
+use Rattle.charges.specs.declared.Sums.{Sums}
+use Rattle.charges.specs.Records.{SumsOf, UpTo, sumsOn, sumsWith}
+use Rattle.charges.proofs.Sizes.{one-up-to, up-to-small, sums-next, sums-up-to}
+use Rattle.search.proofs.Steps.{for-all, each-none, each-next, each-all, tried, bidders-done, bidders-next, not-full, accepted-next, choosable}
+use Rattle.search.proofs.Cuts.{length-chosen, small-sums, cut}
 use Rattle.search.proofs.search.Reads as search′
 use Rattle.search.proofs.search.Kinds as search-kinds
 use Rattle.search.proofs.+search.Lts-search as search-lts
+use Rattle.charges.proofs.charged.Reads as charged-reads
+use Rattle.charges.proofs.plus.Reads as plus-reads
+use Rattle.hopeless.proofs.hopeless.Reads as hopeless-reads
 use Rattle.search.proofs.choose.Reads as choose-reads
 use Rattle.search.proofs.leaf.Reads as leaf-reads
+use Rattle.search.proofs.lost.Reads as lost-reads
 use Rattle.supply.proofs.segment_of.Reads as segment-of-reads
 use Rattle.search.proofs.+search.{statement}
 use Rattle.search.proofs.+search.Tie.{close}
 
 -- the bidders left
-abbrev μ-search : Measures 0 search-kinds.ps ℕ
-μ-search κs a = a .0 .count - a .1 .0 .count
+abbrev μ-search : Measures 1 search-kinds.ps ℕ
+μ-search κs a = a .0 .count - a .1 .1 .1 .0 .count
 
-abbrev search-at : ℕ → In 0 search-kinds.ps
-search-at t = and 0 search-kinds.ps (is 0 search-kinds.ps μ-search t) search′.Pre
+abbrev search-at : ℕ → In 1 search-kinds.ps
+search-at t = and 1 search-kinds.ps (is 1 search-kinds.ps μ-search t) search′.Pre
 
-abbrev search-below : ℕ → In 0 search-kinds.ps
-search-below t = and 0 search-kinds.ps (falls 0 search-kinds.ps _<_ μ-search t) search′.Pre
+abbrev search-below : ℕ → In 1 search-kinds.ps
+search-below t = and 1 search-kinds.ps (falls 1 search-kinds.ps _<_ μ-search t) search′.Pre
 
 abbrev R : ℕ → search-lts.Claims
 R t = (
+  lost-reads.Asked,
+  lost-reads.Learnt,
   leaf-reads.Asked,
   leaf-reads.Learnt,
   segment-of-reads.Asked,
   segment-of-reads.Learnt,
+  charged-reads.Asked,
+  charged-reads.Learnt,
+  plus-reads.Asked,
+  plus-reads.Learnt,
+  hopeless-reads.Asked,
+  hopeless-reads.Learnt,
   choose-reads.Asked,
   choose-reads.Learnt,
   search-below t,
@@ -48,13 +74,13 @@ R t = (
 )
 
 abbrev search-Inv-loop : search-lts.InvT-loop
-search-Inv-loop c book at left bid so-far₀ j₀ so-far j =
+search-Inv-loop table prices c sums book demand n at left bid so-far₀ j₀ so-far j =
     let later = drop (c .count + 1) (suppliesOf (bookEntries book .bids)) in
     let from = drop j (supplyOf (bidEntries bid)) in
     (j ≤ bid .count + 1) × (found (book .count) so-far ≡ each (tried (book .demand .0) later (chosen c)) from (found (book .count) so-far₀))
 
 abbrev search-μ-loop : search-lts.MeasureT-loop
-search-μ-loop c book at left bid so-far₀ j₀ so-far j = j
+search-μ-loop table prices c sums book demand n at left bid so-far₀ j₀ so-far j = j
 
 -- What is known of the book, and of the next bidder where there is one.
 
@@ -62,82 +88,221 @@ abbrev Start : ℕ → Type 0
 Start t = search-lts.Start (R t) (search-at t) search′.Post search-Inv-loop search-μ-loop
 
 abbrev Bidder : ℕ → Type 0
-Bidder t = search-lts.Else1 (R t) (search-at t) search′.Post search-Inv-loop search-μ-loop
+Bidder t = search-lts.Else2 (R t) (search-at t) search′.Post search-Inv-loop search-μ-loop
+
+abbrev start : (t : ℕ) → Bidder t → Start t
+start t c = c .before .before .before .before
 
 held : (t : ℕ) (s : Start t) → s .args .t1 .count ≤ length (s .args .t1 .bids)
 held t s =
     let h : length (s .args .t1 .bids) ≡ 8 = search (length-held, s .good) in
-    omega (arith, s .pre .1 .searchable .few)
+    omega (arith, s .pre .1 .choice-of .searchable .few)
 
-further : (t : ℕ) (c : Bidder t) → c .before .args .c .count < c .before .args .t1 .count
-further t c = omega (arith, c .before .pre .1 .within, c .if1 .left)
+further : (t : ℕ) (c : Bidder t) → start t c .args .c .count < start t c .args .t1 .count
+further t c = omega (arith, start t c .pre .1 .choice-of .within, c .if2 .left)
+
+few : (t : ℕ) (c : Bidder t) → start t c .args .c .count < 8
+few t c = not-full (start t c .pre .1 .choice-of) (further t c)
 
 abbrev bid : (t : ℕ) → Bidder t → Bid
-bid t c = getD (c .before .args .t1 .bids) (c .before .args .c .count) noBid
+bid t c = getD (start t c .args .t1 .bids) (start t c .args .c .count) noBid
 
 accepted : (t : ℕ) (c : Bidder t) → AcceptedBid (bidEntries (bid t c))
-accepted t c = accepted-next (c .before .pre .1) (further t c) (held t (c .before))
+accepted t c = accepted-next (start t c .pre .1 .choice-of) (further t c) (held t (start t c))
 
--- The bidder, seen from a turn.
+-- A turn: its bidder, the segment tried, and the sums with it.
 abbrev Turn : ℕ → Type 0
-Turn t = search-lts.In-loop (R t) (search-at t) search′.Post search-Inv-loop search-μ-loop
+Turn t = search-lts.After-segment-of (R t) (search-at t) search′.Post search-Inv-loop search-μ-loop
 
 abbrev bidder : (t : ℕ) → Turn t → Bidder t
-bidder t c = c .before .before .before .before
+bidder t c = c .before .before .before .before .before
+
+abbrev segment : (t : ℕ) → Turn t → Segment
+segment t c = getD (supplyOf (bidEntries (bid t (bidder t c)))) (c .before .before .loop .j - 1) segment0
+
+sound-segment : (t : ℕ) (c : Turn t) → SoundSegment (segment t c)
+sound-segment t c = sound-segment-at (bidEntries (bid t (bidder t c))) (accepted t (bidder t c)) _ (c .segment-of .ensures .0)
+
+-- the choice with it
+sound-next : (t : ℕ) (c : Turn t) → All SoundSegment (segment t c ∷ chosen (start t (bidder t c) .args .c))
+sound-next t c = (sound-segment t c, start t (bidder t c) .pre .1 .choice-of .choice .each)
+
+length-next : (t : ℕ) (c : Turn t) → length (segment t c ∷ chosen (start t (bidder t c) .args .c)) ≡ start t (bidder t c) .args .c .count + 1
+length-next t c = omega (arith, length-chosen (start t (bidder t c) .args .c))
+
+added : (t : ℕ) (c : search-lts.After-charged (R t) (search-at t) search′.Post search-Inv-loop search-μ-loop)
+    → let s = start t (bidder t (c .before)) in
+    c .charged .result ≡ sumsOn (s .args .t1 .demand .0) (s .args .prices) (segment t (c .before))
+added t c =
+    let s = start t (bidder t (c .before)) in
+    c .charged .ensures ∙ ap (sumsOn (s .args .t1 .demand .0) (s .args .prices)) (c .before .segment-of .ensures .1)
+
+sums-with : (t : ℕ) (c : search-lts.After-plus (R t) (search-at t) search′.Post search-Inv-loop search-μ-loop)
+    → let s = start t (bidder t (c .before .before)) in
+    SumsOf (s .args .t1 .demand .0) (s .args .prices) (segment t (c .before .before) ∷ chosen (s .args .c)) (c .plus .result)
+sums-with t c =
+    let s = start t (bidder t (c .before .before)) in
+    let a = s .args in
+    let l = segment t (c .before .before) in
+    let same = c .plus .ensures ∙ ap (sumsWith (a .sums)) (added t (c .before)) in
+    subst (SumsOf (a .t1 .demand .0) (a .prices) (l ∷ chosen (a .c))) (sym same) (sums-next (a .t1 .demand .0) (a .prices) l (chosen (a .c)) (a .sums) (s .pre .1 .sums-of))
+
+-- A turn is done: the best so far is that of one segment more.
+turn-done : (t : ℕ) (c : Turn t) (r : MaybeDivision)
+    → let s = start t (bidder t c) in
+    let n = s .args .t1 .count in
+    found n r ≡ tried (s .args .t1 .demand .0) (drop (s .args .c .count + 1) (suppliesOf (bookEntries (s .args .t1) .bids))) (chosen (s .args .c)) (segment t c) (found n (c .before .before .loop .so-far))
+    → (c .before .before .loop .j - 1 ≤ bid t (bidder t c) .count + 1)
+    × (found n r ≡ each (tried (s .args .t1 .demand .0) (drop (s .args .c .count + 1) (suppliesOf (bookEntries (s .args .t1) .bids))) (chosen (s .args .c))) (drop (c .before .before .loop .j - 1) (supplyOf (bidEntries (bid t (bidder t c))))) (found n (s .args .best)))
+turn-done t c r found-next =
+    let i = c .before .before .loop in
+    let e = bidder t c in
+    let n = start t e .args .t1 .count in
+    let next : i .j ≡ suc (i .j - 1) = omega (arith, c .before .loop-test .taken) in
+    let again = each-next _ (supplyOf (bidEntries (bid t e))) _ (i .j) (i .j - 1) next (c .segment-of .ensures .0) (found n (i .so-far)) _ (i .inv .1) found-next in
+    (omega (arith, i .inv .0), again)
+
+search-lost-requires : (t : ℕ) → search-lts.Need-lost-requires (R t) (search-at t) search′.Post search-Inv-loop search-μ-loop
+search-lost-requires t c κs =
+    let p = c .before .pre .1 in
+    let of = p .choice-of in
+    record { few = of .searchable .few; within = of .within; choice = of .choice; capped = p .capped; graded = p .surveyed .graded; sums-of = p .sums-of }
 
 search-returns : (t : ℕ) → search-lts.Need-returns (R t) (search-at t) search′.Post search-Inv-loop search-μ-loop
 search-returns t c =
     let s = c .before .before .before in
     let a = s .args in
+    let p = s .pre .1 in
+    let l = c .before .lost .ensures in
+    let yes = c .if1 .taken in
+    cut (a .t1) (a .prices) (a .table .now) (p .choice-of .searchable) (p .surveyed) (held t s) (a .c .count) (p .choice-of .within) (chosen (a .c)) (p .choice-of .choice .each) (length-chosen (a .c)) (a .sums) (p .sums-of) true (a .best) (λ _. l .0 yes) (l .1 yes)
+
+search-sub-left : (t : ℕ) → search-lts.Need-sub-left (R t) (search-at t) search′.Post search-Inv-loop search-μ-loop
+search-sub-left t c = omega (arith, c .before .before .before .pre .1 .choice-of .within)
+
+search-leaf-requires : (t : ℕ) → search-lts.Need-leaf-requires (R t) (search-at t) search′.Post search-Inv-loop search-μ-loop
+search-leaf-requires t c κs = c .before .before .before .before .pre .1 .choice-of .choice
+
+search-returns-2 : (t : ℕ) → search-lts.Need-returns-2 (R t) (search-at t) search′.Post search-Inv-loop search-μ-loop
+search-returns-2 t c =
+    let s = c .before .before .before .before .before in
+    let a = s .args in
     let b = a .t1 in
-    let same : a .c .count ≡ b .count = omega (arith, s .pre .1 .within, c .before .before .if1 .taken) in
+    let same : a .c .count ≡ b .count = omega (arith, s .pre .1 .choice-of .within, c .before .if2 .taken) in
     for-all (a .c .count) (b .count) (c .leaf .result) (a .best) (leaf (b .demand .0) (chosen (a .c))) same (c .leaf .ensures)
     ∙ sym (bidders-done (b .bids) (b .count) (held t s) (b .demand .0) (a .c .count) (chosen (a .c)) (found (b .count) (a .best)) (omega arith))
+
+search-mul-bid : (t : ℕ) → search-lts.Need-mul-bid (R t) (search-at t) search′.Post search-Inv-loop search-μ-loop
+search-mul-bid t c = omega (arith, few t c)
+
+search-element-copy-out-bid : (t : ℕ) → search-lts.Need-element-copy-out-bid (R t) (search-at t) search′.Post search-Inv-loop search-μ-loop
+search-element-copy-out-bid t c = few t c
+
+search-add-j : (t : ℕ) → search-lts.Need-add-j (R t) (search-at t) search′.Post search-Inv-loop search-μ-loop
+search-add-j t c = omega (arith, accepted t (c .before .before) .count-high)
 
 search-loop-holds : (t : ℕ) → search-lts.Need-loop-holds (R t) (search-at t) search′.Post search-Inv-loop search-μ-loop
 search-loop-holds t c =
     let b = bid t (c .before .before) in
     (omega arith, each-none _ (supplyOf (bidEntries b)) _ (b .count + 1) (few-segments b))
 
+search-sub-j : (t : ℕ) → search-lts.Need-sub-j (R t) (search-at t) search′.Post search-Inv-loop search-μ-loop
+search-sub-j t c = search needs
+
 search-segment-of-requires : (t : ℕ) → search-lts.Need-segment-of-requires (R t) (search-at t) search′.Post search-Inv-loop search-μ-loop
 search-segment-of-requires t c κs =
-    record { held = accepted t (bidder t c) .count-high; within = omega (arith, c .before .loop .inv .0) }
+    record { held = accepted t (c .before .before .before .before) .count-high; within = omega (arith, c .before .loop .inv .0) }
+
+search-charged-requires : (t : ℕ) → search-lts.Need-charged-requires (R t) (search-at t) search′.Post search-Inv-loop search-μ-loop
+search-charged-requires t c κs =
+    record { sound = rw (c .segment-of .ensures .1) (sound-segment t c); capped = start t (bidder t c) .pre .1 .capped }
+
+search-plus-requires : (t : ℕ) → search-lts.Need-plus-requires (R t) (search-at t) search′.Post search-Inv-loop search-μ-loop
+search-plus-requires t c κs =
+    let l = c .before in
+    let s = start t (bidder t l) in
+    let p = s .pre .1 in
+    let one = one-up-to (s .args .t1 .demand .0) (s .args .prices) (segment t l) (sound-segment t l) (p .capped) in
+    record {
+      left = up-to-small 8 _ (omega arith) (small-sums _ _ (s .args .c) _ (p .choice-of .choice) (p .capped) (p .sums-of));
+      right = up-to-small 1 _ (omega arith) (subst (UpTo 1) (sym (added t c)) one);
+    }
+
+search-add-hopeless : (t : ℕ) → search-lts.Need-add-hopeless (R t) (search-at t) search′.Post search-Inv-loop search-μ-loop
+search-add-hopeless t c = omega (arith, few t (bidder t (c .before .before)))
+
+search-hopeless-requires : (t : ℕ) → search-lts.Need-hopeless-requires (R t) (search-at t) search′.Post search-Inv-loop search-μ-loop
+search-hopeless-requires t c κs =
+    let l = c .before .before in
+    let e = bidder t l in
+    let p = start t e .pre .1 in
+    record {
+      few = p .choice-of .searchable .few;
+      within = omega (arith, further t e);
+      capped = p .capped;
+      graded = p .surveyed .graded;
+      small = sums-up-to _ _ 8 _ _ (sound-next t l) (p .capped) (omega (arith, length-next t l, few t e)) (sums-with t c);
+    }
 
 search-choose-requires : (t : ℕ) → search-lts.Need-choose-requires (R t) (search-at t) search′.Post search-Inv-loop search-μ-loop
 search-choose-requires t c κs =
-    let e = bidder t (c .before) in
-    let tried-next = c .segment-of .ensures in
-    choosable (e .before .pre .1) (further t e) (held t (e .before)) _ _ (tried-next .0) (tried-next .1)
+    let t′ = c .before .before .before .before in
+    let e = bidder t t′ in
+    let tried-next = t′ .segment-of .ensures in
+    choosable (start t e .pre .1 .choice-of) (further t e) (held t (start t e)) _ _ (tried-next .0) (tried-next .1)
 
 search-search-requires : (t : ℕ) → search-lts.Need-search-requires (R t) (search-at t) search′.Post search-Inv-loop search-μ-loop
 search-search-requires t c κs =
-    let e = bidder t (c .before .before) in
-    let s = e .before in
+    let w = c .before .before .before in
+    let e = bidder t (w .before .before) in
+    let s = start t e in
+    let p = s .pre .1 in
     let left = further t e in
     let now = s .pre .0 in
     let next = c .choose .ensures in
     let count = next .0 in
-    (omega arith, record { searchable = s .pre .1 .searchable; choice = next .1 .1; within = omega arith })
+    let same = next .1 .0 ∙ ap (λ (x : Segment). x ∷ chosen (s .args .c)) (w .before .before .segment-of .ensures .1) in (
+      omega arith,
+      record {
+        choice-of = record { searchable = p .choice-of .searchable; choice = next .1 .1; within = omega arith };
+        capped = p .capped;
+        surveyed = p .surveyed;
+        sums-of = subst (λ (c : List Segment). SumsOf (s .args .t1 .demand .0) (s .args .prices) c (w .plus .result)) (sym same) (sums-with t w);
+      },
+    )
+
+search-loop-less : (t : ℕ) → search-lts.Need-loop-less (R t) (search-at t) search′.Post search-Inv-loop search-μ-loop
+search-loop-less t c = search needs
 
 search-loop-again : (t : ℕ) → search-lts.Need-loop-again (R t) (search-at t) search′.Post search-Inv-loop search-μ-loop
 search-loop-again t c =
     let chosen-next = c .before .choose .ensures in
-    let tried-next = c .before .before .segment-of .ensures in
-    let l = c .before .before .before in
-    let i = l .before .loop in
-    let e = bidder t l in
-    let n = e .before .args .t1 .count in
-    let supply = supplyOf (bidEntries (bid t e)) in
-    let next : i .j ≡ suc (i .j - 1) = omega (arith, l .loop-test .taken) in
+    let l = c .before .before .before .before .before .before in
+    let tried-next = l .segment-of .ensures in
     let found-next = rw (chosen-next .1 .0, chosen-next .0, tried-next .1) at (c .search .ensures) in
-    let again = each-next _ supply _ (i .j) (i .j - 1) next (tried-next .0) (found n (i .so-far)) _ (i .inv .1) found-next in
-    (omega (arith, i .inv .0), again)
+    turn-done t l (c .search .result) found-next
 
-search-returns-2 : (t : ℕ) → search-lts.Need-returns-2 (R t) (search-at t) search′.Post search-Inv-loop search-μ-loop
-search-returns-2 t c =
+search-loop-less-2 : (t : ℕ) → search-lts.Need-loop-less-2 (R t) (search-at t) search′.Post search-Inv-loop search-μ-loop
+search-loop-less-2 t c = search needs
+
+search-loop-again-2 : (t : ℕ) → search-lts.Need-loop-again-2 (R t) (search-at t) search′.Post search-Inv-loop search-μ-loop
+search-loop-again-2 t c =
+    let w = c .before .before in
+    let l = w .before .before in
+    let e = bidder t l in
+    let s = start t e in
+    let a = s .args in
+    let p = s .pre .1 in
+    let so-far = l .before .before .loop .so-far in
+    let nothing = c .before .hopeless .ensures (not-false _ (c .if3 .left)) in
+    turn-done t l so-far
+    (cut (a .t1) (a .prices) (a .table .now) (p .choice-of .searchable) (p .surveyed) (held t s) (a .c .count + 1) (omega (arith, further t e)) (segment t l ∷ chosen (a .c)) (sound-next t l) (length-next t l) (w .plus .result) (sums-with t w) false so-far (λ h. absurd (false≢true h)) nothing)
+
+search-returns-3 : (t : ℕ) → search-lts.Need-returns-3 (R t) (search-at t) search′.Post search-Inv-loop search-μ-loop
+search-returns-3 t c =
     let i = c .before .loop in
     let e = c .before .before .before .before in
-    let s = e .before in
+    let s = start t e in
     let a = s .args in
     let b = a .t1 in
     each-all _ (supplyOf (bidEntries (bid t e))) _ (i .j) (omega (arith, c .loop-test .left)) _ (i .inv .1)
@@ -149,17 +314,25 @@ pub +search-spec : {M : Type 1} → statement M
     search′.Post
     search-Inv-loop
     search-μ-loop
-    (λ c. search needs)
-    (λ c κs. c .before .before .pre .1 .choice)
+    (search-lost-requires t)
     (search-returns t)
-    (λ c. omega (arith, not-full (c .before .pre .1) (further t c)))
-    (λ c. not-full (c .before .pre .1) (further t c))
-    (λ c. omega (arith, accepted t (c .before .before) .count-high))
+    (search-sub-left t)
+    (search-leaf-requires t)
+    (search-returns-2 t)
+    (search-mul-bid t)
+    (search-element-copy-out-bid t)
+    (search-add-j t)
     (search-loop-holds t)
-    (λ c. search needs)
+    (search-sub-j t)
     (search-segment-of-requires t)
+    (search-charged-requires t)
+    (search-plus-requires t)
+    (search-add-hopeless t)
+    (search-hopeless-requires t)
     (search-choose-requires t)
     (search-search-requires t)
-    (λ c. search needs)
+    (search-loop-less t)
     (search-loop-again t)
-    (search-returns-2 t)
+    (search-loop-less-2 t)
+    (search-loop-again-2 t)
+    (search-returns-3 t)

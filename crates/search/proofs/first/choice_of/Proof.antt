@@ -9,7 +9,8 @@ use Rattle.book.specs.Entries.{bookEntries}
 use Rattle.supply.specs.Supply.{suppliesOf}
 use Rattle.search.specs.Searchable.{ChoiceOf}
 use Rattle.search.proofs.Choosing.{FromFirst, from-none, from-next}
-use Rattle.search.proofs.Steps.{supplies-done, supplies-next, not-full, accepted-next, choosable}
+use Rattle.supply.proofs.Supplies.{supplies-done, supplies-next}
+use Rattle.search.proofs.Steps.{not-full, accepted-next, choosable}
 use Rattle.search.proofs.first.choice_of.Statement.{statement}
 use Rattle.search.proofs.first.choice_of.Tie as tie
 

@@ -1,0 +1,4 @@
+pub mod Table
+pub mod Classes
+pub mod Extending
+pub mod Covering

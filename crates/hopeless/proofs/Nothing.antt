@@ -1,0 +1,143 @@
+-- Where with every class of ways to complete a choice nothing is better than the best so far, the search leaves it as it is. Assumes nothing.
+use Prim.Native.Nat.{ℕ, _+_, _*_, _≤_, _<_}
+use native.Mathlib.Omega.{arith}
+use mathlib.Core.Bool.{Bool, true, false, cond, false≢true}
+use mathlib.Core.List.{List, [], _∷_, reverseAux}
+use mathlib.Core.Logic.{_⊎_, inl, inr, ⊎-elim}
+use mathlib.Core.Option.{some, none}
+use mathlib.Core.Path.{_≡_, refl, sym, ap, _∙_, subst}
+use borrow.Author.Tests.{lt-ltb}
+use lib.IntN.{ℤ, pos, negsuc, natAbs}
+use lib.ListN.{length, take, length-map}
+use lib.Seq.{take-take}
+use lib.Signed.{ltZ}
+use Rattle.lists.specs.All.{All}
+use Rattle.book.specs.declared.Segment.{Segment}
+use Rattle.book.specs.Entries.{BidEntries}
+use Rattle.book.specs.Accepted.{AcceptedBid}
+use Rattle.supply.specs.Supply.{supplyOf, suppliesOf}
+use Rattle.supply.specs.Allocation.{bought}
+use Rattle.divisions.specs.Award.{Priced, givesMore, better}
+use Rattle.divisions.proofs.Order.{better-cost, better-tie}
+use Rattle.divisions.proofs.Signed.{order}
+use Rattle.divisions.proofs.IsBest.{NotBetter}
+use Rattle.choices.specs.Choice.{placed, endsInOrder}
+use Rattle.choices.specs.Chosen.{Chosen}
+use Rattle.choices.specs.Leaf.{Leaf}
+use Rattle.choices.specs.Search.{search}
+use Rattle.choices.specs.Sound.{SoundSegment}
+use Rattle.choices.proofs.Sound.{SoundSupply}
+use Rattle.choices.proofs.Accepted.{sound-supplies}
+use Rattle.choices.proofs.Fill.{cost, box-widths}
+use Rattle.choices.proofs.Placed.{placed-bought, ends-widths}
+use Rattle.choices.proofs.Chosen.{chosen-box, chosen-each, chosen-length}
+use Rattle.choices.proofs.Divides.{together, Divides, divides}
+use Rattle.choices.proofs.Kept.{none-better, none-there}
+use Rattle.choices.proofs.Behind.{behind}
+use Rattle.comparison.specs.declared.MaybeDivision.{MaybeDivision}
+use Rattle.comparison.specs.Records.{blanksIn, divisionIn, found}
+use Rattle.charges.specs.declared.Prices.{Prices}
+use Rattle.charges.specs.declared.Sums.{Sums}
+use Rattle.charges.specs.Charge.{million, charges}
+use Rattle.charges.specs.Records.{SumsOf, sumsWith}
+use Rattle.charges.proofs.Bound.{charges-below}
+use Rattle.completions.specs.Classes.{classAt, classCount, Admits, Covers}
+use Rattle.hopeless.specs.Hopeless.{GivesMore, Above, Closed, passed, short, dearFirst, dearSecond, NothingBetter}
+
+-- A cost against a sum of prices.
+
+cheaper-than : (z : ℤ) (m : ℕ) → natAbs z < m → ltZ z (pos m) ≡ true
+cheaper-than (pos k) m h = lt-ltb k m h
+cheaper-than (negsuc k) m h = refl
+
+no-dearer-than : (z : ℤ) (m : ℕ) → natAbs z ≤ m → (ltZ z (pos m) ≡ true) ⊎ (z ≡ pos m)
+no-dearer-than (pos k) m h = ⊎-elim (λ l. inl (lt-ltb k m l)) (⊎-elim (λ l. inr (ap pos l)) (λ l. absurd (omega arith))) (order k m)
+no-dearer-than (negsuc k) m h = inl refl
+
+-- A choice c for the first of n bidders, the bids of the others, and the best so far.
+module _ (demand n : ℕ) (prices : Prices) (c : List Segment) (sound : All SoundSegment c) (bids : List BidEntries) (accepted : All AcceptedBid bids)
+    (all : length c + length bids ≡ n) (best : MaybeDivision) (ties : Bool) (wins : ties ≡ true → GivesMore c best) where
+  abbrev supplies : List (List Segment)
+  supplies = suppliesOf bids
+
+  sound-left : All SoundSupply supplies
+  sound-left = sound-supplies bids accepted
+
+  abbrev kept : Priced
+  kept = divisionIn n best
+
+  -- a division of the part costs at least what its charges say
+  module _ (d : Priced) (p : Divides demand supplies c d) where
+    abbrev e : List Segment
+    e = p .later
+
+    abbrev ys : List ℕ
+    ys = p .laterShares
+
+    abbrev price : ℕ
+    price = cost c (p .extras) + cost e ys
+
+    bound : (l : ℕ) → charges demand l c + charges demand l e + l * demand ≤ price + l * (million * n)
+    bound l =
+        let meets = ap (λ (r : ℕ). l * r) (p .meets) in
+        let size : length c + length e ≡ n = omega (arith, chosen-length supplies e ys (p .chosen), length-map bids supplyOf) in
+        let blanks = ap (λ (k : ℕ). l * (million * k)) size in
+        omega (
+          arith,
+          meets,
+          blanks,
+          charges-below demand l c (p .extras) sound (p .box) (omega (arith, p .meets)),
+          charges-below demand l e ys (chosen-each supplies e ys sound-left (p .chosen)) (chosen-box supplies e ys (p .chosen)) (omega (arith, p .meets)),
+        )
+
+    loses : natAbs (best .cost .0) < price → NotBetter d kept
+    loses h = inr (subst (λ (x : Priced). better kept x ≡ true) (sym (p .is)) (better-cost kept (together c (p .extras) e ys) (cheaper-than (best .cost .0) price h)))
+
+    ties-lost : natAbs (best .cost .0) ≤ price → GivesMore c best → NotBetter d kept
+    ties-lost h m =
+        let whole = together c (p .extras) e ys in
+        let held : take (length c) (kept .quantities) ≡ take (length c) (blanksIn (best .quantities)) = take-take (length c) n (blanksIn (best .quantities)) (omega (arith, all)) in
+        let more = behind c (p .extras) (placed e ys) (kept .quantities) sound (p .box) (subst (λ (qs : List ℕ). givesMore qs (endsInOrder c) ≡ true) (sym held) m) in
+        inr (subst (λ (x : Priced). better kept x ≡ true) (sym (p .is))
+        (⊎-elim (λ k. better-cost kept whole k) (λ k. better-tie kept whole k more) (no-dearer-than (best .cost .0) price h)))
+
+    too-dear : (l charged : ℕ) → charged ≤ charges demand l c + charges demand l e → Above demand n l charged (natAbs (best .cost .0)) ties → NotBetter d kept
+    too-dear l charged h (inl a) = loses (omega (arith, bound l))
+    too-dear l charged h (inr (t, a)) = ties-lost (omega (arith, bound l)) (wins t)
+
+    -- its way to complete the choice is of a class that is closed
+    verdict : (sums class : Sums) → SumsOf demand prices c sums
+        → Admits class (bought (placed e ys)) (charges demand (prices .first .0) e) (charges demand (prices .second .0) e)
+        → Closed demand n prices (sumsWith sums class) ties best → ⊥ ⊎ ((best .found ≡ true) × NotBetter d kept)
+    verdict sums class s a (passed h) = inl (omega (arith, p .meets, s .low, a .low, placed-bought c (p .extras) (p .box)))
+    verdict sums class s a (short h) =
+        inl (omega (arith, p .meets, s .high, a .high, placed-bought c (p .extras) (p .box), box-widths c (p .extras) (p .box), ends-widths c sound))
+    verdict sums class s a (dearFirst f h) =
+        inr (f, too-dear (prices .first .0) (sums .first + class .first) (omega (arith, s .first, a .first)) h)
+    verdict sums class s a (dearSecond f h) =
+        inr (f, too-dear (prices .second .0) (sums .second + class .second) (omega (arith, s .second, a .second)) h)
+
+  -- so no division is better
+  module _ (verdicts : (d : Priced) → Leaf demand supplies c d → ⊥ ⊎ ((best .found ≡ true) × NotBetter d kept)) where
+    as-it-is : search demand supplies c (found n best) ≡ found n best
+    as-it-is = go (best .found) refl
+      where
+        go : (t : Bool) → best .found ≡ t → search demand supplies c (cond t (some kept) none) ≡ cond t (some kept) none
+        go true f = none-better demand supplies c kept (λ d l. ⊎-elim (λ x. absurd x) (λ x. x .1) (verdicts d l))
+        go false f = none-there demand supplies c none (λ d l. ⊎-elim (λ x. x) (λ x. false≢true (sym f ∙ x .0)) (verdicts d l))
+
+-- every class is closed
+pub nothing-better : (demand n : ℕ) (prices : Prices) (table : List ℕ) (at : ℕ) (sums : Sums) (ties : Bool) (best : MaybeDivision) → at ≤ n
+    → ((left i : ℕ) → at + left ≡ n → i < classCount left → Closed demand n prices (sumsWith sums (classAt table (32 * at + i))) ties best)
+    → NothingBetter demand n prices table at sums ties best
+nothing-better demand n prices table at sums ties best within closed = record {
+  as-it-is = λ c sound size s wins bids accepted all covers.
+      let whole : length c + length bids ≡ n = omega arith in
+      as-it-is demand n prices c sound bids accepted whole best ties wins
+      (λ d leaf.
+      let p = divides demand (suppliesOf bids) c d (sound-supplies bids accepted) sound leaf in
+      let h = covers .has (p .later) (p .laterShares) (p .chosen) (omega (arith, p .meets)) in
+      let left : at + length (suppliesOf bids) ≡ n = omega (arith, length-map bids supplyOf) in
+      verdict demand n prices c sound bids accepted whole best ties wins d p sums (classAt table (32 * at + h .class)) s (h .admits)
+      (closed (length (suppliesOf bids)) (h .class) left (h .within)));
+}

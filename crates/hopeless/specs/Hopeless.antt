@@ -1,0 +1,71 @@
+-- For the contract of `hopeless`: in a part of the search, a choice with all ways to complete it, there is nothing better than the best so far.
+use Prim.Native.Nat.{ℕ, _+_, _*_, _^_, _≤_, _<_}
+use mathlib.Core.Bool.{Bool, true}
+use mathlib.Core.List.{List}
+use mathlib.Core.Logic.{_⊎_}
+use mathlib.Core.Path.{_≡_}
+use lib.IntN.{natAbs}
+use lib.ListN.{length, take}
+use Rattle.lists.specs.All.{All}
+use Rattle.book.specs.declared.Segment.{Segment}
+use Rattle.book.specs.Entries.{BidEntries}
+use Rattle.book.specs.Accepted.{AcceptedBid}
+use Rattle.supply.specs.Supply.{suppliesOf}
+use Rattle.divisions.specs.Award.{givesMore}
+use Rattle.choices.specs.Choice.{endsInOrder}
+use Rattle.choices.specs.Search.{search}
+use Rattle.choices.specs.Sound.{SoundSegment}
+use Rattle.comparison.specs.declared.MaybeDivision.{MaybeDivision}
+use Rattle.comparison.specs.Records.{blanksIn, found}
+use Rattle.charges.specs.declared.Prices.{Prices}
+use Rattle.charges.specs.declared.Sums.{Sums}
+use Rattle.charges.specs.Charge.{million, highest}
+use Rattle.charges.specs.Records.{Capped, SumsOf, UpTo}
+use Rattle.completions.specs.Classes.{Covers, Graded}
+
+-- the best so far gives more than the ends of a choice to the first of its bidders at whom they differ: it wins every tie against it
+abbrev pub GivesMore : List Segment → MaybeDivision → Type 0
+GivesMore c best = givesMore (take (length c) (blanksIn (best .quantities))) (endsInOrder c) ≡ true
+
+-- by a price l of a blank, n bidders with these charges cost more than so many cents; or as many, where that is enough
+abbrev pub Above : (demand n l charged cents : ℕ) → Bool → Type 0
+Above demand n l charged cents ties =
+    (cents + l * (million * n) < charged + l * demand) ⊎ ((ties ≡ true) × (cents + l * (million * n) ≤ charged + l * demand))
+
+-- of a choice and a class of ways to complete it, with these sums together, nothing is better than the best so far
+pub data Closed (demand n : ℕ) (prices : Prices) (x : Sums) (ties : Bool) (best : MaybeDivision) : Type 0 where
+  -- the starts pass the demand
+  passed : demand < x .low .0 → Closed demand n prices x ties best
+  -- the ends do not reach it; a class does not count its `high`
+  short : x .high .0 ≤ demand → Closed demand n prices x ties best
+  -- every division costs too much, by the first price or by the second
+  dearFirst : best .found ≡ true → Above demand n (prices .first .0) (x .first) (natAbs (best .cost .0)) ties → Closed demand n prices x ties best
+  dearSecond : best .found ≡ true → Above demand n (prices .second .0) (x .second) (natAbs (best .cost .0)) ties → Closed demand n prices x ties best
+
+-- what `dear` asks: numbers of at most eight bidders, so that nothing wraps
+pub record Comparable (demand n l charged cents : ℕ) : Type 0 where
+  pub in-reach : demand ≤ 20000000
+  pub few : n ≤ 8
+  pub capped : l ≤ highest
+  pub small : charged ≤ 2 ^ 62
+  pub price : cents ≤ 2 ^ 63
+
+-- what `closed` asks
+pub record Closable (n : ℕ) (prices : Prices) (x : Sums) : Type 0 where
+  pub few : n ≤ 8
+  pub capped : Capped prices
+  pub small : UpTo 17 x
+
+-- what `hopeless` asks: a table of classes, and the sums of a choice for the first `at` of n bidders
+pub record Testable (n : ℕ) (prices : Prices) (table : List ℕ) (at : ℕ) (sums : Sums) : Type 0 where
+  pub few : n ≤ 8
+  pub within : at ≤ n
+  pub capped : Capped prices
+  pub graded : Graded table
+  pub small : UpTo 8 sums
+
+-- the search with a choice c that has these sums, and with bidders whose ways to complete it the table covers, leaves the best so far as it is
+pub record NothingBetter (demand n : ℕ) (prices : Prices) (table : List ℕ) (at : ℕ) (sums : Sums) (ties : Bool) (best : MaybeDivision) : Type 0 where
+  pub as-it-is : (c : List Segment) → All SoundSegment c → length c ≡ at → SumsOf demand prices c sums → (ties ≡ true → GivesMore c best)
+      → (bids : List BidEntries) → All AcceptedBid bids → at + length bids ≡ n → Covers demand prices table at (suppliesOf bids)
+      → search demand (suppliesOf bids) c (found n best) ≡ found n best

@@ -1,0 +1,100 @@
+// The test whether a part of the search has nothing better than the best so far: a choice, with all ways to complete it. It is asked before
+// the search goes on with a segment.
+ghost use mathlib.Core.Path.{_≡_};
+ghost use mathlib.Core.Bool.{true, false};
+ghost use mathlib.Core.Logic.{_⊎_};
+ghost use Prim.Native.Nat.{_≤_, _<_};
+ghost use Rattle.hopeless.specs.Hopeless.{Above, Closed, Comparable, Closable, Testable, NothingBetter};
+use charges::Prices;
+use charges::Sums;
+use comparison::MaybeDivision;
+use money::Blanks;
+use money::CentsPerBlank;
+
+// Whether no division lies within these sums: the starts pass the demand, or the ends do not reach it.
+fn apart(demand: Blanks, x: Sums) -> bool
+    ensures { λ r. ⌜ (r ≡ true → (demand .0 < x .low .0) ⊎ (x .high .0 ≤ demand .0)) ⌝ }
+    ensures { λ r. ⌜ (r ≡ false → demand .0 < x .high .0) ⌝ }
+{
+    if demand.0 < x.low.0 {
+        return true;
+    }
+    x.high.0 <= demand.0
+}
+
+// Whether by a price of a blank n bidders with these charges cost more than so many cents; or as many, where ties are lost.
+fn dear(
+    demand: Blanks,
+    n: usize,
+    price: CentsPerBlank,
+    charged: u64,
+    cents: u64,
+    ties: bool,
+) -> bool
+    requires { ⌜ Comparable (demand .0) n (price .0) charged cents ⌝ }
+    ensures { λ r. ⌜ (r ≡ true → Above (demand .0) n (price .0) charged cents ties) ⌝ }
+{
+    let limit = cents + price.0 * (1000000 * (n as u64));
+    let bound = charged + price.0 * demand.0;
+    if ties {
+        return limit <= bound;
+    }
+    limit < bound
+}
+
+// Whether nothing within these sums is better than the best so far.
+fn closed(
+    demand: Blanks,
+    n: usize,
+    prices: Prices,
+    x: Sums,
+    ties: bool,
+    best: MaybeDivision,
+) -> bool
+    requires { ⌜ Closable n prices x ⌝ }
+    ensures { λ r. ⌜ (r ≡ true → Closed (demand .0) n prices x ties best) ⌝ }
+{
+    if apart(demand, x) {
+        return true;
+    }
+    if !best.found {
+        return false;
+    }
+    let cost = best.cost;
+    let cents = money::magnitude(cost);
+    let a = prices.first;
+    if dear(demand, n, a, x.first, cents, ties) {
+        return true;
+    }
+    let b = prices.second;
+    dear(demand, n, b, x.second, cents, ties)
+}
+
+// Whether the search can go on with a choice for the first `at` of n bidders only to leave the best so far as it is: with each class of
+// ways to complete it there is nothing better. `sums` are those of the choice. With `ties`, the best so far gives more than the ends of
+// the choice to the first bidder at whom they differ, and so is better than what only costs as much. It is pub for the search.
+pub fn hopeless(
+    table: &[u64; 1152],
+    at: usize,
+    demand: Blanks,
+    n: usize,
+    prices: Prices,
+    sums: Sums,
+    ties: bool,
+    best: MaybeDivision,
+) -> bool
+    requires { ⌜ Testable n prices (now table) at sums ⌝ }
+    ensures { λ r. ⌜ (r ≡ true → NothingBetter (demand .0) n prices (now (table .entry)) at sums ties best) ⌝ }
+{
+    let count = completions::class_count(n - at);
+    let mut i: usize = 0;
+    while i < count {
+        let class = completions::class_at(table, 32 * at + i);
+        let both = charges::plus(sums, class);
+        if !closed(demand, n, prices, both, ties, best) {
+            return false;
+        }
+        i += 1;
+    }
+    true
+}

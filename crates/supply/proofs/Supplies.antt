@@ -1,0 +1,40 @@
+-- The supply functions of a book's bids along a loop, and the segments of one. Assumes nothing.
+use Prim.Native.Nat.{ℕ, _+_, _≤_, _<_}
+use native.Mathlib.Omega.{arith}
+use mathlib.Core.List.{List, [], _∷_, map}
+use mathlib.Core.Path.{_≡_, ap, _∙_}
+use lib.ListN.{length, getD, take, drop, length-map, length-take, List·getD-map, drop-of-length-le}
+use Rattle.lists.proofs.Slices.{drop-next}
+use Rattle.book.specs.declared.Segment.{Segment}
+use Rattle.book.specs.declared.Bid.{Bid}
+use Rattle.book.specs.Entries.{BidEntries, bidEntries}
+use Rattle.book.proofs.Records.{noBid}
+use Rattle.book.proofs.Bids.{length-entries, entry-at}
+use Rattle.supply.specs.Supply.{supplyOf, suppliesOf}
+
+-- segment 0, and those that the bid counts
+pub few-segments : (b : Bid) → length (supplyOf (bidEntries b)) ≤ b .count + 1
+few-segments b = rw length-take (omega arith)
+
+module _ (bids : List Bid) (n : ℕ) (held : n ≤ length bids) where
+  abbrev entries : List BidEntries
+  entries = map bidEntries (take n bids)
+
+  length-supplies : length (suppliesOf entries) ≡ n
+  length-supplies = length-map entries supplyOf ∙ length-entries bids n held
+
+  supply-at : (i : ℕ) → i < n → getD (suppliesOf entries) i (supplyOf (bidEntries noBid)) ≡ supplyOf (bidEntries (getD bids i noBid))
+  supply-at i h = List·getD-map supplyOf entries i (bidEntries noBid) ∙ ap supplyOf (entry-at bids n held i h)
+
+  -- from the bidder in turn on
+  pub supplies-next : (i : ℕ) → i < n → drop i (suppliesOf entries) ≡ supplyOf (bidEntries (getD bids i noBid)) ∷ drop (i + 1) (suppliesOf entries)
+  supplies-next i h =
+      let within : i < length (suppliesOf entries) = rw length-supplies h in
+      drop-next (suppliesOf entries) i (supplyOf (bidEntries noBid)) within
+      ∙ ap (λ (ss : List Segment). ss ∷ drop (i + 1) (suppliesOf entries)) (supply-at i h)
+
+  -- after the last
+  pub supplies-done : (at : ℕ) → n ≤ at → drop at (suppliesOf entries) ≡ []
+  supplies-done at h =
+      let all : length (suppliesOf entries) ≤ at = omega (arith, length-supplies) in
+      drop-of-length-le (suppliesOf entries) all
