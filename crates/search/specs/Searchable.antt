@@ -6,7 +6,11 @@ use Rattle.book.specs.declared.Segment.{Segment}
 use Rattle.book.specs.declared.Book.{Book}
 use Rattle.book.specs.Entries.{BookEntries, bookEntries}
 use Rattle.book.specs.Accepted.{AcceptedBid}
+use Rattle.supply.specs.Supply.{suppliesOf}
+use Rattle.choices.specs.Leaf.{Started}
 use Rattle.choices.specs.Sound.{SoundSegment}
+use Rattle.comparison.specs.declared.MaybeDivision.{MaybeDivision}
+use Rattle.comparison.specs.Records.{found}
 use Rattle.meritorder.specs.declared.Choice.{Choice}
 use Rattle.meritorder.specs.Records.{chosen, Sound}
 use Rattle.charges.specs.declared.Prices.{Prices}
@@ -18,6 +22,11 @@ use Rattle.completions.specs.Classes.{Graded, Surveyed}
 pub record Searchable (b : BookEntries) : Type 0 where
   pub few : b .count ≤ 8
   pub bids : All AcceptedBid (b .bids)
+
+-- what `first` asks: a book, and what a complete choice of its segments gives, or none
+pub record StartedWith (book : Book) (best : MaybeDivision) : Type 0 where
+  pub searchable : Searchable (bookEntries book)
+  pub started : Started (book .demand .0) (suppliesOf (bookEntries book .bids)) (found (book .count) best)
 
 -- what `choose` asks: a choice of fewer than eight bidders, and a segment
 pub record Choosable (c : Choice) (s : Segment) : Type 0 where

@@ -7,12 +7,20 @@ ghost use Rattle.supply.specs.Supply.{suppliesOf};
 ghost use Rattle.choices.specs.Leaf.{Started};
 ghost use Rattle.comparison.specs.Records.{found};
 ghost use Rattle.meritorder.specs.Records.{chosen, Sound};
+ghost use Rattle.charges.specs.Records.{Capped};
 ghost use Rattle.search.specs.ChosenFrom.{ChosenFrom};
-ghost use Rattle.search.specs.Searchable.{Searchable};
+ghost use Rattle.search.specs.Searchable.{Searchable, StartedWith};
 use book::Bid;
 use book::Book;
+use charges::Prices;
 use comparison::MaybeDivision;
 use meritorder::Choice;
+
+// Prices of a blank to bound the search with, and a division to improve on, if one was found.
+pub struct Beginning {
+    pub prices: Prices,
+    pub best: MaybeDivision,
+}
 
 // A number of a segment that the bid has.
 fn within(bid: Bid, number: usize) -> usize
@@ -53,19 +61,43 @@ fn choice_of(book: Book, numbers: [usize; 8], other: usize, number: usize) -> Ch
     c
 }
 
-// The best of some choices, each next to that of the favoured segments, if one of them fits. It is pub
-// for `best_division`, which starts the search from it.
-pub fn first(book: Book, numbers: [usize; 8]) -> MaybeDivision
-    requires { ⌜ Searchable (bookEntries book) ⌝ }
+// The best of a division, if there is one, and of some choices, each next to that of the favoured
+// segments.
+fn first(book: Book, numbers: [usize; 8], best: MaybeDivision) -> MaybeDivision
+    requires { ⌜ StartedWith book best ⌝ }
     ensures { λ r. ⌜ Started (book .demand .0) (suppliesOf (bookEntries book .bids)) (found (book .count) r) ⌝ }
 {
     let demand = book.demand;
-    let mut best = crate::no_division();
+    let mut so_far = best;
     let mut k: usize = 0;
     while k < 7 * book.count {
         let c = choice_of(book, numbers, k / 7, k % 7);
-        best = crate::leaf(demand, c, best);
+        so_far = crate::leaf(demand, c, so_far);
         k += 1;
     }
-    best
+    so_far
+}
+
+// What the search begins with: the price at which the bidders would sell what is asked for, a division
+// near what they would sell at it, and a second price, by which a better division may be found. It is
+// pub for `best_division`.
+pub fn begin(book: Book) -> Beginning
+    requires { ⌜ Searchable (bookEntries book) ⌝ }
+    ensures { λ r. ⌜ Capped (r .prices) ⌝ }
+    ensures { λ r. ⌜ Started (book .demand .0) (suppliesOf (bookEntries book .bids)) (found (book .count) (r .best)) ⌝ }
+{
+    let price = hints::balance(book);
+    let numbers = hints::favourites(book, price);
+    let one = first(book, numbers, crate::no_division());
+    let other = hints::second_price(book, one, price);
+    let others = hints::favourites(book, other);
+    let best = first(book, others, one);
+    let second = hints::second_price(book, best, price);
+    Beginning {
+        prices: Prices {
+            first: price,
+            second,
+        },
+        best,
+    }
 }

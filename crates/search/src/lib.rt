@@ -89,11 +89,8 @@ fn search(
     ensures { λ r. ⌜ found (book .count) r ≡ search (book .demand .0) (drop (c .count) (suppliesOf (bookEntries book .bids))) (chosen c) (found (book .count) best) ⌝ }
 {
     let demand = book.demand;
-    let n = book.count;
-    if lost(table, demand, n, prices, c, sums, best) {
-        return best;
-    }
     let at = c.count;
+    let n = book.count;
     let left = n - at;
     if left == 0 {
         return leaf(demand, c, best);
@@ -107,7 +104,9 @@ fn search(
         let more = charges::plus(sums, charges::charged(s, demand, prices));
         if !hopeless::hopeless(table, at + 1, demand, n, prices, more, false, so_far) {
             let next = choose(c, s);
-            so_far = search(book, table, prices, next, more, so_far);
+            if !lost(table, demand, n, prices, next, more, so_far) {
+                so_far = search(book, table, prices, next, more, so_far);
+            }
         }
     }
     so_far
@@ -145,14 +144,9 @@ pub fn best_division(book: Book) -> MaybeDivision
     requires { ⌜ Searchable (bookEntries book) ⌝ }
     ensures { λ r. ⌜ found (book .count) r ≡ awardOf (book .demand .0) (suppliesOf (bookEntries book .bids)) ⌝ }
 {
-    let price = hints::balance(book);
-    let numbers = hints::favourites(book, price);
-    let start = first::first(book, numbers);
-    let second = hints::second_price(book, start, price);
-    let prices = Prices {
-        first: price,
-        second,
-    };
+    let beginning = first::begin(book);
+    let prices = beginning.prices;
+    let best = beginning.best;
     let mut table = [0u64; 1152];
     completions::survey(&mut table, book, prices);
     let none = Sums {
@@ -161,5 +155,5 @@ pub fn best_division(book: Book) -> MaybeDivision
         first: 0,
         second: 0,
     };
-    search(book, &table, prices, no_choice(), none, start)
+    search(book, &table, prices, no_choice(), none, best)
 }

@@ -2,7 +2,7 @@
 -- is passed over, the search with it would leave the best so far as it is.
 use Prim.Native.Nat.{ℕ, suc, _+_, _-_, _≤_, _<_}
 use native.Mathlib.Omega.{arith}
-use mathlib.Core.Bool.{true, false, false≢true}
+use mathlib.Core.Bool.{Bool, true, false, false≢true}
 use mathlib.Core.List.{List, _∷_}
 use mathlib.Core.Path.{_≡_, sym, ap, _∙_, subst}
 use borrow.Author.Needs.{needs}
@@ -28,6 +28,8 @@ use Rattle.meritorder.specs.Records.{chosen}
 use Rattle.charges.specs.declared.Sums.{Sums}
 use Rattle.charges.specs.Records.{SumsOf, UpTo, sumsOn, sumsWith}
 use Rattle.charges.proofs.Sizes.{one-up-to, up-to-small, sums-next, sums-up-to}
+use Rattle.hopeless.specs.Hopeless.{GivesMore, NothingBetter}
+use Rattle.search.specs.Searchable.{ChoiceOf}
 use Rattle.search.proofs.Steps.{for-all, each-none, each-next, each-all, tried, bidders-done, bidders-next, not-full, accepted-next, choosable}
 use Rattle.search.proofs.Cuts.{length-chosen, small-sums, cut}
 use Rattle.search.proofs.search.Reads as search′
@@ -55,8 +57,6 @@ search-below t = and 1 search-kinds.ps (falls 1 search-kinds.ps _<_ μ-search t)
 
 abbrev R : ℕ → search-lts.Claims
 R t = (
-  lost-reads.Asked,
-  lost-reads.Learnt,
   leaf-reads.Asked,
   leaf-reads.Learnt,
   segment-of-reads.Asked,
@@ -69,18 +69,20 @@ R t = (
   hopeless-reads.Learnt,
   choose-reads.Asked,
   choose-reads.Learnt,
+  lost-reads.Asked,
+  lost-reads.Learnt,
   search-below t,
   search′.Post,
 )
 
 abbrev search-Inv-loop : search-lts.InvT-loop
-search-Inv-loop table prices c sums book demand n at left bid so-far₀ j₀ so-far j =
+search-Inv-loop table prices c sums book demand at n left bid so-far₀ j₀ so-far j =
     let later = drop (c .count + 1) (suppliesOf (bookEntries book .bids)) in
     let from = drop j (supplyOf (bidEntries bid)) in
     (j ≤ bid .count + 1) × (found (book .count) so-far ≡ each (tried (book .demand .0) later (chosen c)) from (found (book .count) so-far₀))
 
 abbrev search-μ-loop : search-lts.MeasureT-loop
-search-μ-loop table prices c sums book demand n at left bid so-far₀ j₀ so-far j = j
+search-μ-loop table prices c sums book demand at n left bid so-far₀ j₀ so-far j = j
 
 -- What is known of the book, and of the next bidder where there is one.
 
@@ -88,10 +90,10 @@ abbrev Start : ℕ → Type 0
 Start t = search-lts.Start (R t) (search-at t) search′.Post search-Inv-loop search-μ-loop
 
 abbrev Bidder : ℕ → Type 0
-Bidder t = search-lts.Else2 (R t) (search-at t) search′.Post search-Inv-loop search-μ-loop
+Bidder t = search-lts.Else1 (R t) (search-at t) search′.Post search-Inv-loop search-μ-loop
 
 abbrev start : (t : ℕ) → Bidder t → Start t
-start t c = c .before .before .before .before
+start t c = c .before .before
 
 held : (t : ℕ) (s : Start t) → s .args .t1 .count ≤ length (s .args .t1 .bids)
 held t s =
@@ -99,7 +101,7 @@ held t s =
     omega (arith, s .pre .1 .choice-of .searchable .few)
 
 further : (t : ℕ) (c : Bidder t) → start t c .args .c .count < start t c .args .t1 .count
-further t c = omega (arith, start t c .pre .1 .choice-of .within, c .if2 .left)
+further t c = omega (arith, start t c .pre .1 .choice-of .within, c .if1 .left)
 
 few : (t : ℕ) (c : Bidder t) → start t c .args .c .count < 8
 few t c = not-full (start t c .pre .1 .choice-of) (further t c)
@@ -147,13 +149,22 @@ sums-with t c =
     let same = c .plus .ensures ∙ ap (sumsWith (a .sums)) (added t (c .before)) in
     subst (SumsOf (a .t1 .demand .0) (a .prices) (l ∷ chosen (a .c))) (sym same) (sums-next (a .t1 .demand .0) (a .prices) l (chosen (a .c)) (a .sums) (s .pre .1 .sums-of))
 
--- A turn is done: the best so far is that of one segment more.
+-- A turn is done: the best so far is r, that of one segment more.
+abbrev Done : (t : ℕ) → Turn t → MaybeDivision → Type 0
+Done t c r =
+    let s = start t (bidder t c) in
+    let n = s .args .t1 .count in
+    let later = drop (s .args .c .count + 1) (suppliesOf (bookEntries (s .args .t1) .bids)) in
+    let from = drop (c .before .before .loop .j - 1) (supplyOf (bidEntries (bid t (bidder t c)))) in
+    (c .before .before .loop .j - 1 ≤ bid t (bidder t c) .count + 1)
+    × (found n r ≡ each (tried (s .args .t1 .demand .0) later (chosen (s .args .c))) from (found n (s .args .best)))
+
 turn-done : (t : ℕ) (c : Turn t) (r : MaybeDivision)
     → let s = start t (bidder t c) in
     let n = s .args .t1 .count in
-    found n r ≡ tried (s .args .t1 .demand .0) (drop (s .args .c .count + 1) (suppliesOf (bookEntries (s .args .t1) .bids))) (chosen (s .args .c)) (segment t c) (found n (c .before .before .loop .so-far))
-    → (c .before .before .loop .j - 1 ≤ bid t (bidder t c) .count + 1)
-    × (found n r ≡ each (tried (s .args .t1 .demand .0) (drop (s .args .c .count + 1) (suppliesOf (bookEntries (s .args .t1) .bids))) (chosen (s .args .c))) (drop (c .before .before .loop .j - 1) (supplyOf (bidEntries (bid t (bidder t c))))) (found n (s .args .best)))
+    let later = drop (s .args .c .count + 1) (suppliesOf (bookEntries (s .args .t1) .bids)) in
+    found n r ≡ tried (s .args .t1 .demand .0) later (chosen (s .args .c)) (segment t c) (found n (c .before .before .loop .so-far))
+    → Done t c r
 turn-done t c r found-next =
     let i = c .before .before .loop in
     let e = bidder t c in
@@ -162,33 +173,44 @@ turn-done t c r found-next =
     let again = each-next _ (supplyOf (bidEntries (bid t e))) _ (i .j) (i .j - 1) next (c .segment-of .ensures .0) (found n (i .so-far)) _ (i .inv .1) found-next in
     (omega (arith, i .inv .0), again)
 
-search-lost-requires : (t : ℕ) → search-lts.Need-lost-requires (R t) (search-at t) search′.Post search-Inv-loop search-μ-loop
-search-lost-requires t c κs =
-    let p = c .before .pre .1 in
-    let of = p .choice-of in
-    record { few = of .searchable .few; within = of .within; choice = of .choice; capped = p .capped; graded = p .surveyed .graded; sums-of = p .sums-of }
+-- It is done too where the search with that segment has nothing better.
+passed-over : (t : ℕ) (c : search-lts.After-plus (R t) (search-at t) search′.Post search-Inv-loop search-μ-loop) (ties : Bool)
+    → let l = c .before .before in
+    let s = start t (bidder t l) in
+    let so-far = l .before .before .loop .so-far in
+    (ties ≡ true → GivesMore (segment t l ∷ chosen (s .args .c)) so-far)
+    → NothingBetter (s .args .t1 .demand .0) (s .args .t1 .count) (s .args .prices) (s .args .table .now) (s .args .c .count + 1) (c .plus .result) ties so-far
+    → Done t l so-far
+passed-over t c ties wins nothing =
+    let l = c .before .before in
+    let e = bidder t l in
+    let s = start t e in
+    let a = s .args in
+    let p = s .pre .1 in
+    let so-far = l .before .before .loop .so-far in
+    turn-done t l so-far
+    (cut (a .t1) (a .prices) (a .table .now) (p .choice-of .searchable) (p .surveyed) (held t s) (a .c .count + 1) (omega (arith, further t e)) (segment t l ∷ chosen (a .c)) (sound-next t l) (length-next t l) (c .plus .result) (sums-with t c) ties so-far wins nothing)
+
+-- the choice made, with the segment of this turn
+chosen-now : (t : ℕ) (c : search-lts.After-choose (R t) (search-at t) search′.Post search-Inv-loop search-μ-loop)
+    → let l = c .before .before .before .before .before in
+    chosen (c .choose .result) ≡ segment t l ∷ chosen (start t (bidder t l) .args .c)
+chosen-now t c =
+    let l = c .before .before .before .before .before in
+    c .choose .ensures .1 .0 ∙ ap (λ (x : Segment). x ∷ chosen (start t (bidder t l) .args .c)) (l .segment-of .ensures .1)
+
+search-sub-left : (t : ℕ) → search-lts.Need-sub-left (R t) (search-at t) search′.Post search-Inv-loop search-μ-loop
+search-sub-left t c = omega (arith, c .before .pre .1 .choice-of .within)
+
+search-leaf-requires : (t : ℕ) → search-lts.Need-leaf-requires (R t) (search-at t) search′.Post search-Inv-loop search-μ-loop
+search-leaf-requires t c κs = c .before .before .pre .1 .choice-of .choice
 
 search-returns : (t : ℕ) → search-lts.Need-returns (R t) (search-at t) search′.Post search-Inv-loop search-μ-loop
 search-returns t c =
     let s = c .before .before .before in
     let a = s .args in
-    let p = s .pre .1 in
-    let l = c .before .lost .ensures in
-    let yes = c .if1 .taken in
-    cut (a .t1) (a .prices) (a .table .now) (p .choice-of .searchable) (p .surveyed) (held t s) (a .c .count) (p .choice-of .within) (chosen (a .c)) (p .choice-of .choice .each) (length-chosen (a .c)) (a .sums) (p .sums-of) true (a .best) (λ _. l .0 yes) (l .1 yes)
-
-search-sub-left : (t : ℕ) → search-lts.Need-sub-left (R t) (search-at t) search′.Post search-Inv-loop search-μ-loop
-search-sub-left t c = omega (arith, c .before .before .before .pre .1 .choice-of .within)
-
-search-leaf-requires : (t : ℕ) → search-lts.Need-leaf-requires (R t) (search-at t) search′.Post search-Inv-loop search-μ-loop
-search-leaf-requires t c κs = c .before .before .before .before .pre .1 .choice-of .choice
-
-search-returns-2 : (t : ℕ) → search-lts.Need-returns-2 (R t) (search-at t) search′.Post search-Inv-loop search-μ-loop
-search-returns-2 t c =
-    let s = c .before .before .before .before .before in
-    let a = s .args in
     let b = a .t1 in
-    let same : a .c .count ≡ b .count = omega (arith, s .pre .1 .choice-of .within, c .before .if2 .taken) in
+    let same : a .c .count ≡ b .count = omega (arith, s .pre .1 .choice-of .within, c .before .if1 .taken) in
     for-all (a .c .count) (b .count) (c .leaf .result) (a .best) (leaf (b .demand .0) (chosen (a .c))) same (c .leaf .ensures)
     ∙ sym (bidders-done (b .bids) (b .count) (held t s) (b .demand .0) (a .c .count) (chosen (a .c)) (found (b .count) (a .best)) (omega arith))
 
@@ -251,35 +273,40 @@ search-choose-requires t c κs =
     let tried-next = t′ .segment-of .ensures in
     choosable (start t e .pre .1 .choice-of) (further t e) (held t (start t e)) _ _ (tried-next .0) (tried-next .1)
 
+search-lost-requires : (t : ℕ) → search-lts.Need-lost-requires (R t) (search-at t) search′.Post search-Inv-loop search-μ-loop
+search-lost-requires t c κs =
+    let w = c .before .before .before in
+    let e = bidder t (w .before .before) in
+    let s = start t e in
+    let p = s .pre .1 in
+    let next = c .choose .ensures in
+    let sums = subst (λ (c : List Segment). SumsOf (s .args .t1 .demand .0) (s .args .prices) c (w .plus .result)) (sym (chosen-now t c)) (sums-with t w) in
+    record { few = p .choice-of .searchable .few; within = omega (arith, next .0, further t e); choice = next .1 .1; capped = p .capped; graded = p .surveyed .graded; sums-of = sums }
+
 search-search-requires : (t : ℕ) → search-lts.Need-search-requires (R t) (search-at t) search′.Post search-Inv-loop search-μ-loop
 search-search-requires t c κs =
-    let w = c .before .before .before in
+    let h = c .before .before in
+    let w = h .before .before .before in
     let e = bidder t (w .before .before) in
     let s = start t e in
     let p = s .pre .1 in
     let left = further t e in
     let now = s .pre .0 in
-    let next = c .choose .ensures in
+    let next = h .choose .ensures in
     let count = next .0 in
-    let same = next .1 .0 ∙ ap (λ (x : Segment). x ∷ chosen (s .args .c)) (w .before .before .segment-of .ensures .1) in (
-      omega arith,
-      record {
-        choice-of = record { searchable = p .choice-of .searchable; choice = next .1 .1; within = omega arith };
-        capped = p .capped;
-        surveyed = p .surveyed;
-        sums-of = subst (λ (c : List Segment). SumsOf (s .args .t1 .demand .0) (s .args .prices) c (w .plus .result)) (sym same) (sums-with t w);
-      },
-    )
+    let sums = subst (λ (c : List Segment). SumsOf (s .args .t1 .demand .0) (s .args .prices) c (w .plus .result)) (sym (chosen-now t h)) (sums-with t w) in
+    let of : ChoiceOf (s .args .t1) (h .choose .result) = record { searchable = p .choice-of .searchable; choice = next .1 .1; within = omega arith } in
+    (omega arith, record { choice-of = of; capped = p .capped; surveyed = p .surveyed; sums-of = sums })
 
 search-loop-less : (t : ℕ) → search-lts.Need-loop-less (R t) (search-at t) search′.Post search-Inv-loop search-μ-loop
 search-loop-less t c = search needs
 
 search-loop-again : (t : ℕ) → search-lts.Need-loop-again (R t) (search-at t) search′.Post search-Inv-loop search-μ-loop
 search-loop-again t c =
-    let chosen-next = c .before .choose .ensures in
-    let l = c .before .before .before .before .before .before in
-    let tried-next = l .segment-of .ensures in
-    let found-next = rw (chosen-next .1 .0, chosen-next .0, tried-next .1) at (c .search .ensures) in
+    let h = c .before .before .before in
+    let chosen-next = h .choose .ensures in
+    let l = h .before .before .before .before .before in
+    let found-next = rw (chosen-next .1 .0, chosen-next .0, l .segment-of .ensures .1) at (c .search .ensures) in
     turn-done t l (c .search .result) found-next
 
 search-loop-less-2 : (t : ℕ) → search-lts.Need-loop-less-2 (R t) (search-at t) search′.Post search-Inv-loop search-μ-loop
@@ -287,19 +314,26 @@ search-loop-less-2 t c = search needs
 
 search-loop-again-2 : (t : ℕ) → search-lts.Need-loop-again-2 (R t) (search-at t) search′.Post search-Inv-loop search-μ-loop
 search-loop-again-2 t c =
-    let w = c .before .before in
+    let h = c .before .before in
+    let w = h .before .before .before in
     let l = w .before .before in
-    let e = bidder t l in
-    let s = start t e in
+    let s = start t (bidder t l) in
     let a = s .args in
-    let p = s .pre .1 in
     let so-far = l .before .before .loop .so-far in
-    let nothing = c .before .hopeless .ensures (not-false _ (c .if3 .left)) in
-    turn-done t l so-far
-    (cut (a .t1) (a .prices) (a .table .now) (p .choice-of .searchable) (p .surveyed) (held t s) (a .c .count + 1) (omega (arith, further t e)) (segment t l ∷ chosen (a .c)) (sound-next t l) (length-next t l) (w .plus .result) (sums-with t w) false so-far (λ h. absurd (false≢true h)) nothing)
+    let yes = not-false _ (c .if3 .left) in
+    let wins = subst (λ (c : List Segment). GivesMore c so-far) (chosen-now t h) (c .before .lost .ensures .0 yes) in
+    let nothing = subst (λ (at : ℕ). NothingBetter (a .t1 .demand .0) (a .t1 .count) (a .prices) (a .table .now) at (w .plus .result) true so-far) (h .choose .ensures .0) (c .before .lost .ensures .1 yes) in
+    passed-over t w true (λ _. wins) nothing
 
-search-returns-3 : (t : ℕ) → search-lts.Need-returns-3 (R t) (search-at t) search′.Post search-Inv-loop search-μ-loop
-search-returns-3 t c =
+search-loop-less-3 : (t : ℕ) → search-lts.Need-loop-less-3 (R t) (search-at t) search′.Post search-Inv-loop search-μ-loop
+search-loop-less-3 t c = search needs
+
+search-loop-again-3 : (t : ℕ) → search-lts.Need-loop-again-3 (R t) (search-at t) search′.Post search-Inv-loop search-μ-loop
+search-loop-again-3 t c =
+    passed-over t (c .before .before) false (λ h. absurd (false≢true h)) (c .before .hopeless .ensures (not-false _ (c .if2 .left)))
+
+search-returns-2 : (t : ℕ) → search-lts.Need-returns-2 (R t) (search-at t) search′.Post search-Inv-loop search-μ-loop
+search-returns-2 t c =
     let i = c .before .loop in
     let e = c .before .before .before .before in
     let s = start t e in
@@ -314,11 +348,9 @@ pub +search-spec : {M : Type 1} → statement M
     search′.Post
     search-Inv-loop
     search-μ-loop
-    (search-lost-requires t)
-    (search-returns t)
     (search-sub-left t)
     (search-leaf-requires t)
-    (search-returns-2 t)
+    (search-returns t)
     (search-mul-bid t)
     (search-element-copy-out-bid t)
     (search-add-j t)
@@ -330,9 +362,12 @@ pub +search-spec : {M : Type 1} → statement M
     (search-add-hopeless t)
     (search-hopeless-requires t)
     (search-choose-requires t)
+    (search-lost-requires t)
     (search-search-requires t)
     (search-loop-less t)
     (search-loop-again t)
     (search-loop-less-2 t)
     (search-loop-again-2 t)
-    (search-returns-3 t)
+    (search-loop-less-3 t)
+    (search-loop-again-3 t)
+    (search-returns-2 t)
