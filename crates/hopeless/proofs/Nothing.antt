@@ -39,10 +39,10 @@ use Rattle.comparison.specs.Records.{blanksIn, divisionIn, found}
 use Rattle.charges.specs.declared.Prices.{Prices}
 use Rattle.charges.specs.declared.Sums.{Sums}
 use Rattle.charges.specs.Charge.{million, charges}
-use Rattle.charges.specs.Records.{SumsOf, sumsWith}
+use Rattle.charges.specs.Records.{SumsOf}
 use Rattle.charges.proofs.Bound.{charges-below}
 use Rattle.completions.specs.Classes.{classAt, classCount, Admits, Covers}
-use Rattle.hopeless.specs.Hopeless.{GivesMore, Above, Closed, passed, short, dearFirst, dearSecond, NothingBetter}
+use Rattle.hopeless.specs.Hopeless.{GivesMore, Above, Closed, empty, passed, short, dearFirst, dearSecond, NothingBetter}
 
 -- A cost against a sum of prices.
 
@@ -108,7 +108,8 @@ module _ (demand n : ℕ) (prices : Prices) (c : List Segment) (sound : All Soun
     -- its way to complete the choice is of a class that is closed
     verdict : (sums class : Sums) → SumsOf demand prices c sums
         → Admits class (bought (placed e ys)) (charges demand (prices .first .0) e) (charges demand (prices .second .0) e)
-        → Closed demand n prices (sumsWith sums class) ties best → ⊥ ⊎ ((best .found ≡ true) × NotBetter d kept)
+        → Closed demand n prices sums class ties best → ⊥ ⊎ ((best .found ≡ true) × NotBetter d kept)
+    verdict sums class s a (empty h) = inl (omega (arith, a .high))
     verdict sums class s a (passed h) = inl (omega (arith, p .meets, s .low, a .low, placed-bought c (p .extras) (p .box)))
     verdict sums class s a (short h) =
         inl (omega (arith, p .meets, s .high, a .high, placed-bought c (p .extras) (p .box), box-widths c (p .extras) (p .box), ends-widths c sound))
@@ -128,7 +129,7 @@ module _ (demand n : ℕ) (prices : Prices) (c : List Segment) (sound : All Soun
 
 -- every class is closed
 pub nothing-better : (demand n : ℕ) (prices : Prices) (table : List ℕ) (at : ℕ) (sums : Sums) (ties : Bool) (best : MaybeDivision) → at ≤ n
-    → ((left i : ℕ) → at + left ≡ n → i < classCount left → Closed demand n prices (sumsWith sums (classAt table (32 * at + i))) ties best)
+    → ((left i : ℕ) → at + left ≡ n → i < classCount left → Closed demand n prices sums (classAt table (32 * at + i)) ties best)
     → NothingBetter demand n prices table at sums ties best
 nothing-better demand n prices table at sums ties best within closed = record {
   as-it-is = λ c sound size s wins bids accepted all covers.

@@ -32,15 +32,19 @@ abbrev pub Above : (demand n l charged cents : ℕ) → Bool → Type 0
 Above demand n l charged cents ties =
     (cents + l * (million * n) < charged + l * demand) ⊎ ((ties ≡ true) × (cents + l * (million * n) ≤ charged + l * demand))
 
--- of a choice and a class of ways to complete it, with these sums together, nothing is better than the best so far
-pub data Closed (demand n : ℕ) (prices : Prices) (x : Sums) (ties : Bool) (best : MaybeDivision) : Type 0 where
+-- of a choice with these sums and a class of ways to complete it nothing is better than the best so far
+pub data Closed (demand n : ℕ) (prices : Prices) (sums class : Sums) (ties : Bool) (best : MaybeDivision) : Type 0 where
+  -- the class is empty
+  empty : class .high .0 ≡ 0 → Closed demand n prices sums class ties best
   -- the starts pass the demand
-  passed : demand < x .low .0 → Closed demand n prices x ties best
+  passed : demand < sums .low .0 + class .low .0 → Closed demand n prices sums class ties best
   -- the ends do not reach it; a class does not count its `high`
-  short : x .high .0 ≤ demand → Closed demand n prices x ties best
+  short : sums .high .0 + class .high .0 ≤ demand → Closed demand n prices sums class ties best
   -- every division costs too much, by the first price or by the second
-  dearFirst : best .found ≡ true → Above demand n (prices .first .0) (x .first) (natAbs (best .cost .0)) ties → Closed demand n prices x ties best
-  dearSecond : best .found ≡ true → Above demand n (prices .second .0) (x .second) (natAbs (best .cost .0)) ties → Closed demand n prices x ties best
+  dearFirst : best .found ≡ true → Above demand n (prices .first .0) (sums .first + class .first) (natAbs (best .cost .0)) ties
+      → Closed demand n prices sums class ties best
+  dearSecond : best .found ≡ true → Above demand n (prices .second .0) (sums .second + class .second) (natAbs (best .cost .0)) ties
+      → Closed demand n prices sums class ties best
 
 -- what `dear` asks: numbers of at most eight bidders, so that nothing wraps
 pub record Comparable (demand n l charged cents : ℕ) : Type 0 where
@@ -50,11 +54,12 @@ pub record Comparable (demand n l charged cents : ℕ) : Type 0 where
   pub small : charged ≤ 2 ^ 62
   pub price : cents ≤ 2 ^ 63
 
--- what `closed` asks
-pub record Closable (n : ℕ) (prices : Prices) (x : Sums) : Type 0 where
+-- what `closed` asks: sums over at most eight bidders each
+pub record Closable (n : ℕ) (prices : Prices) (sums class : Sums) : Type 0 where
   pub few : n ≤ 8
   pub capped : Capped prices
-  pub small : UpTo 17 x
+  pub chosen : UpTo 8 sums
+  pub left : UpTo 8 class
 
 -- what `hopeless` asks: a table of classes, and the sums of a choice for the first `at` of n bidders
 pub record Testable (n : ℕ) (prices : Prices) (table : List ℕ) (at : ℕ) (sums : Sums) : Type 0 where

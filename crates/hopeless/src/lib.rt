@@ -42,18 +42,23 @@ fn dear(
     limit < bound
 }
 
-// Whether nothing within these sums is better than the best so far.
+// Whether, with a class of ways to complete a choice that has these sums, nothing is better than the best so far.
 fn closed(
     demand: Blanks,
     n: usize,
     prices: Prices,
-    x: Sums,
+    sums: Sums,
+    class: Sums,
     ties: bool,
     best: MaybeDivision,
 ) -> bool
-    requires { ⌜ Closable n prices x ⌝ }
-    ensures { λ r. ⌜ (r ≡ true → Closed (demand .0) n prices x ties best) ⌝ }
+    requires { ⌜ Closable n prices sums class ⌝ }
+    ensures { λ r. ⌜ (r ≡ true → Closed (demand .0) n prices sums class ties best) ⌝ }
 {
+    if class.high.0 == 0 {
+        return true;
+    }
+    let x = charges::plus(sums, class);
     if apart(demand, x) {
         return true;
     }
@@ -90,8 +95,7 @@ pub fn hopeless(
     let mut i: usize = 0;
     while i < count {
         let class = completions::class_at(table, 32 * at + i);
-        let both = charges::plus(sums, class);
-        if !closed(demand, n, prices, both, ties, best) {
+        if !closed(demand, n, prices, sums, class, ties, best) {
             return false;
         }
         i += 1;

@@ -1,83 +1,114 @@
 -- Each test gives its reason, and where the sums meet the demand nothing wraps.
 use Prim.Native.Nat.{ℕ, _*_, _^_, _≤_}
 use native.Mathlib.Omega.{arith}
-use mathlib.Core.Bool.{true, false, false≢true}
+use mathlib.Core.Bool.{true, false≢true}
 use mathlib.Core.Logic.{⊎-elim}
-use mathlib.Core.Path.{_≡_, subst}
+use mathlib.Core.Path.{_≡_, sym, subst}
 use lib.IntN.{natAbs}
 use borrow.Author.Needs.{needs}
 use borrow.Author.Tests.{not-false}
 use mir.Syntax.{w64}
 use mir.Val.{SFits}
 use Rattle.money.proofs.Bounds.{fits-size}
+use Rattle.charges.specs.declared.Sums.{Sums}
 use Rattle.charges.specs.Charge.{highest, mostCharge}
-use Rattle.hopeless.specs.Hopeless.{Above, passed, short, dearFirst, dearSecond, Comparable}
+use Rattle.charges.specs.Records.{UpTo, sumsWith}
+use Rattle.charges.proofs.Sizes.{up-to-small, up-to-with}
+use Rattle.hopeless.specs.Hopeless.{Above, empty, passed, short, dearFirst, dearSecond, Comparable}
 use Rattle.hopeless.proofs.closed.Statement.{statement}
 use Rattle.hopeless.proofs.closed.Tie as tie
 
--- Places, seen from later ones: the first test from what follows it, and from there the start.
+-- Places, seen from later ones: the start and the sums together from the first test of them, and this test from what follows it.
 abbrev start : tie.After-apart → tie.Start
-start c = c .before
+start c = c .before .before .before .before
 
-abbrev first : tie.After-a → tie.After-apart
-first c = c .before .before .before .before .before .before
+abbrev tested : tie.After-a → tie.After-apart
+tested c = c .before .before .before .before .before .before
 
 abbrev second : tie.After-b → tie.After-a
 second c = c .before .before .before
 
--- the best so far is found, its cents are those of its cost, and they fit
-is-found : (c : tie.After-a) → start (first c) .args .best .found ≡ true
-is-found c = not-false _ (c .before .before .before .if2 .left)
+-- the sums together are small
+small : (c : tie.After-apart) → UpTo 17 (c .before .plus .result)
+small c =
+    let s = start c in
+    subst (UpTo 17) (sym (c .before .plus .ensures)) (up-to-with 8 8 (s .args .sums) (s .args .class) (s .pre .chosen) (s .pre .left))
 
-cents : (c : tie.After-a) → c .before .magnitude .result ≡ natAbs (start (first c) .args .best .cost .0)
+-- the best so far is found, its cents are those of its cost, and they fit
+is-found : (c : tie.After-a) → start (tested c) .args .best .found ≡ true
+is-found c = not-false _ (c .before .before .before .if3 .left)
+
+cents : (c : tie.After-a) → c .before .magnitude .result ≡ natAbs (start (tested c) .args .best .cost .0)
 cents c = c .before .magnitude .ensures
 
+fits : (s : tie.Start) → SFits w64 (s .args .best .cost .0)
+fits s = search needs
+
 cents-fit : (c : tie.After-a) → c .before .magnitude .result ≤ 2 ^ 63
-cents-fit c =
-    let fits : SFits w64 (start (first c) .args .best .cost .0) = search needs in
-    omega (arith, cents c, fits-size (start (first c) .args .best .cost .0) fits)
+cents-fit c = omega (arith, cents c, fits-size _ (fits (start (tested c))))
+
+-- what `dear` tells, of the sums and the cost
+told : (c : tie.After-a) (l : ℕ) (part : Sums → ℕ)
+    → let a = start (tested c) .args in
+    Above (a .demand .0) (a .n) l (part (tested c .before .plus .result)) (c .before .magnitude .result) (a .ties)
+    → Above (a .demand .0) (a .n) l (part (sumsWith (a .sums) (a .class))) (natAbs (a .best .cost .0)) (a .ties)
+told c l part h =
+    let a = start (tested c) .args in
+    let x = tested c .before .plus .result in
+    subst (λ (y : Sums). Above (a .demand .0) (a .n) l (part y) (natAbs (a .best .cost .0)) (a .ties)) (tested c .before .plus .ensures)
+    (subst (λ (m : ℕ). Above (a .demand .0) (a .n) l (part x) m (a .ties)) (cents c) h)
 
 -- what `dear` asks, for a price and its charges
-asked : (c : tie.After-apart) (l charged cents : ℕ) → c .apart .result ≡ false → l ≤ highest → charged ≤ mostCharge * 17 → cents ≤ 2 ^ 63
-    → Comparable (start c .args .demand .0) (start c .args .n) l charged cents
-asked c l charged cents e capped small price =
-    let p = start c .pre in
-    record { in-reach = omega (arith, c .apart .ensures .1 e, p .small .high); few = p .few; capped = capped; small = omega (arith, small); price = price }
-
-apart-requires : tie.Need-apart-requires
-apart-requires c κs = search needs
+asked : (c : tie.After-a) (l charged : ℕ) → l ≤ highest → charged ≤ mostCharge * 17
+    → Comparable (start (tested c) .args .demand .0) (start (tested c) .args .n) l charged (c .before .magnitude .result)
+asked c l charged capped most =
+    let t = tested c in
+    let near = t .apart .ensures .1 (c .before .before .before .before .before .if2 .left) in
+    record { in-reach = omega (arith, near, small t .high); few = start t .pre .few; capped = capped; small = omega (arith, most); price = cents-fit c }
 
 returns : tie.Need-returns
-returns c = λ _. ⊎-elim (λ h. passed h) (λ h. short h) (c .before .apart .ensures .0 (c .if1 .taken))
+returns c = λ _. empty (c .if1 .taken)
+
+plus-requires : tie.Need-plus-requires
+plus-requires c κs =
+    let p = c .before .before .pre in
+    record { left = up-to-small 8 _ (omega arith) (p .chosen); right = up-to-small 8 _ (omega arith) (p .left) }
 
 returns-2 : tie.Need-returns-2
-returns-2 c = λ e. absurd (false≢true e)
-
-magnitude-requires : tie.Need-magnitude-requires
-magnitude-requires c κs = search needs
-
-dear-requires : tie.Need-dear-requires
-dear-requires c κs =
-    let s = start (first c) in
-    asked (first c) (s .args .prices .first .0) (s .args .x .first) (c .before .magnitude .result) (c .before .before .before .before .before .if1 .left) (s .pre .capped .first) (omega (arith, s .pre .small .first)) (cents-fit c)
+returns-2 c =
+    let x = c .before .before .plus .ensures in
+    λ _. ⊎-elim (λ h. passed (rw x at h)) (λ h. short (rw x at h)) (c .before .apart .ensures .0 (c .if2 .taken))
 
 returns-3 : tie.Need-returns-3
-returns-3 c =
-    let f = c .before .before in
-    let s = start (first f) in
-    λ _. dearFirst (is-found f) (subst (λ (n : ℕ). Above (s .args .demand .0) (s .args .n) (s .args .prices .first .0) (s .args .x .first) n (s .args .ties)) (cents f) (c .before .dear .ensures (c .if3 .taken)))
+returns-3 c = λ e. absurd (false≢true e)
 
-dear-requires-2 : tie.Need-dear-requires-2
-dear-requires-2 c κs =
-    let f = second c in
-    let s = start (first f) in
-    asked (first f) (s .args .prices .second .0) (s .args .x .second) (f .before .magnitude .result) (f .before .before .before .before .before .if1 .left) (s .pre .capped .second) (omega (arith, s .pre .small .second)) (cents-fit f)
+dear-requires : tie.Need-dear-requires
+dear-requires c κs = asked c _ _ (start (tested c) .pre .capped .first) (small (tested c) .first)
 
 returns-4 : tie.Need-returns-4
 returns-4 c =
+    let f = c .before .before in
+    λ _. dearFirst (is-found f) (told f _ (λ (x : Sums). x .first) (c .before .dear .ensures (c .if4 .taken)))
+
+dear-requires-2 : tie.Need-dear-requires-2
+dear-requires-2 c κs = let f = second c in asked f _ _ (start (tested f) .pre .capped .second) (small (tested f) .second)
+
+returns-5 : tie.Need-returns-5
+returns-5 c =
     let f = second (c .before) in
-    let s = start (first f) in
-    λ e. dearSecond (is-found f) (subst (λ (n : ℕ). Above (s .args .demand .0) (s .args .n) (s .args .prices .second .0) (s .args .x .second) n (s .args .ties)) (cents f) (c .dear2 .ensures e))
+    λ e. dearSecond (is-found f) (told f _ (λ (x : Sums). x .second) (c .dear2 .ensures e))
 
 pub closed-spec : {M : Type 1} → statement M
-closed-spec = tie.close (tie.spec apart-requires returns returns-2 magnitude-requires dear-requires returns-3 dear-requires-2 returns-4)
+closed-spec =
+    tie.close
+    (tie.spec
+    returns
+    plus-requires
+    (λ c κs. search needs)
+    returns-2
+    returns-3
+    (λ c κs. search needs)
+    dear-requires
+    returns-4
+    dear-requires-2
+    returns-5)

@@ -3,12 +3,12 @@ use Prim.Native.Nat.{ℕ, zero, suc, _+_, _*_, _-_, _≤_, _<_}
 use native.Mathlib.Decide.{decLt}
 use native.Mathlib.Omega.{arith}
 use mathlib.Core.Bool.{true, false≢true}
-use mathlib.Core.Path.{_≡_, sym, ap, _∙_, subst}
+use mathlib.Core.Path.{_≡_, sym, ap, subst}
 use borrow.Author.Needs.{needs}
 use borrow.Author.Tests.{not-false}
 use Rattle.charges.specs.declared.Sums.{Sums}
-use Rattle.charges.specs.Records.{UpTo, sumsWith}
-use Rattle.charges.proofs.Sizes.{up-to-small, up-to-more, up-to-with}
+use Rattle.charges.specs.Records.{UpTo}
+use Rattle.charges.proofs.Sizes.{up-to-more}
 use Rattle.completions.specs.Classes.{classAt, classCount}
 use Rattle.hopeless.specs.Hopeless.{Closed}
 use Rattle.hopeless.proofs.Nothing.{nothing-better}
@@ -17,7 +17,7 @@ use Rattle.hopeless.proofs.hopeless.Tie as tie
 
 abbrev Inv-loop : tie.InvT-loop
 Inv-loop table at demand n prices sums ties best count i₀ i =
-    (i ≤ count) × ((k : ℕ) → k < i → Closed (demand .0) n prices (sumsWith sums (classAt table (32 * at + k))) ties best)
+    (i ≤ count) × ((k : ℕ) → k < i → Closed (demand .0) n prices sums (classAt table (32 * at + k)) ties best)
 
 abbrev μ-loop : tie.MeasureT-loop
 μ-loop table at demand n prices sums ties best count i₀ i = count - i
@@ -52,12 +52,9 @@ up-to-this P i below this k h = go (decLt k i)
     go (yes l) = below k l
     go (no l) = let e : i ≡ k = omega arith in subst P e this
 
--- the sums together, and a turn seen from its end
-both : (c : tie.After-plus Inv-loop μ-loop) → c .plus .result ≡ sumsWith (start (c .before .before) .args .sums) (class (c .before .before))
-both c = c .plus .ensures ∙ ap (λ (x : Sums). sumsWith (start (c .before .before) .args .sums) x) (c .before .class-at .ensures)
-
+-- a turn seen from its end
 abbrev turn : tie.Else1 Inv-loop μ-loop → tie.In-loop Inv-loop μ-loop
-turn c = c .before .before .before .before
+turn c = c .before .before .before
 
 sub-class-count : tie.Need-sub-class-count Inv-loop μ-loop
 sub-class-count c = search needs
@@ -77,17 +74,11 @@ add-class-at c = let p = start c .pre in omega (arith, p .within, p .few, within
 class-at-requires : tie.Need-class-at-requires Inv-loop μ-loop
 class-at-requires c κs = let p = start c .pre in omega (arith, p .within, p .few, within c)
 
-plus-requires : tie.Need-plus-requires Inv-loop μ-loop
-plus-requires c κs =
-    let t = c .before in
-    let read = subst (UpTo 8) (sym (c .class-at .ensures)) (small t) in
-    record { left = up-to-small 8 _ (omega arith) (start t .pre .small); right = up-to-small 8 _ (omega arith) read }
-
 closed-requires : tie.Need-closed-requires Inv-loop μ-loop
 closed-requires c κs =
-    let t = c .before .before in
+    let t = c .before in
     let p = start t .pre in
-    record { few = p .few; capped = p .capped; small = subst (UpTo 17) (sym (both c)) (up-to-with 8 8 (start t .args .sums) (class t) (p .small) (small t)) }
+    record { few = p .few; capped = p .capped; chosen = p .small; left = subst (UpTo 8) (sym (c .class-at .ensures)) (small t) }
 
 returns : tie.Need-returns Inv-loop μ-loop
 returns c = λ e. absurd (false≢true e)
@@ -103,8 +94,11 @@ loop-again c =
     let t = turn c in
     let a = start t .args in
     let i = t .before .loop .i in
-    let this = subst (λ (x : Sums). Closed (a .demand .0) (a .n) (a .prices) x (a .ties) (a .best)) (both (c .before .before)) (c .before .closed .ensures (not-false _ (c .if1 .left))) in
-    (omega (arith, t .loop-test .taken), λ k h. up-to-this (λ (k : ℕ). Closed (a .demand .0) (a .n) (a .prices) (sumsWith (a .sums) (classAt (a .table .now) (32 * a .at + k))) (a .ties) (a .best)) i (t .before .loop .inv .1) this k h)
+    let closed = c .before .closed .ensures (not-false _ (c .if1 .left)) in
+    let this = subst (λ (x : Sums). Closed (a .demand .0) (a .n) (a .prices) (a .sums) x (a .ties) (a .best)) (c .before .before .class-at .ensures) closed in (
+      omega (arith, t .loop-test .taken),
+      up-to-this (λ (k : ℕ). Closed (a .demand .0) (a .n) (a .prices) (a .sums) (classAt (a .table .now) (32 * a .at + k)) (a .ties) (a .best)) i (t .before .loop .inv .1) this,
+    )
 
 returns-2 : tie.Need-returns-2 Inv-loop μ-loop
 returns-2 c =
@@ -130,7 +124,6 @@ hopeless-spec =
     mul-class-at
     add-class-at
     class-at-requires
-    plus-requires
     closed-requires
     returns
     add-i
