@@ -1,6 +1,9 @@
 // Hints for the search: prices of a blank to bound it with, and segments to begin with. Any would do, so nothing is proved of them but
 // that the prices are in range; good ones make it fast.
-ghost use Prim.Native.Nat.{_≤_};
+ghost use mathlib.Core.Path.{_≡_};
+ghost use Prim.Native.Nat.{_≤_, max};
+ghost use Rattle.book.specs.Entries.{bidEntries};
+ghost use Rattle.book.specs.Accepted.{AcceptedBid};
 ghost use Rattle.charges.specs.Charge.{highest};
 ghost use Rattle.hints.specs.Asked.{HintedBid, HintedBook, HintedBookBy};
 use book::Bid;
@@ -91,23 +94,47 @@ pub fn favourites(book: Book, price: CentsPerBlank) -> [usize; 8]
     numbers
 }
 
-// A second price: the unit price of a bidder that stands strictly inside its segment in a first division, or else three quarters of the
-// first price.
+// The segment that a quantity is on.
+fn sold_on(bid: Bid, quantity: Blanks) -> Segment
+    requires { ⌜ AcceptedBid (bidEntries bid) ⌝ }
+    ensures { λ r. ⌜ r .unit .0 ≤ highest ⌝ }
+{
+    let number = charges::smaller(supply::segment_number(bid, quantity), bid.count as u64);
+    supply::segment_of(bid, number as usize)
+}
+
+// The larger of two unit prices.
+fn dearer(a: CentsPerBlank, b: CentsPerBlank) -> CentsPerBlank
+    ensures { λ r. ⌜ r .0 ≡ max (a .0) (b .0) ⌝ }
+{
+    if a.0 < b.0 {
+        return b;
+    }
+    a
+}
+
+// A second price: in a first division the unit price of a bidder that stands strictly inside its segment, or else the largest unit price
+// that is paid; without one, three quarters of the first price.
 pub fn second_price(book: Book, division: MaybeDivision, price: CentsPerBlank) -> CentsPerBlank
     requires { ⌜ HintedBookBy book (price .0) ⌝ }
     ensures { λ r. ⌜ r .0 ≤ highest ⌝ }
 {
+    if !division.found {
+        let lower = price.0 - price.0 / 4;
+        return CentsPerBlank(lower);
+    }
+    let mut paid = CentsPerBlank(0);
     let mut i: usize = 0;
     while i < book.count {
         let bid = book.bids[i];
         let quantity = division.quantities[i];
-        let number = charges::smaller(supply::segment_number(bid, quantity), bid.count as u64);
-        let s = supply::segment_of(bid, number as usize);
+        let s = sold_on(bid, quantity);
+        let unit = s.unit;
         if s.start.0 < quantity.0 && quantity.0 < s.end.0 {
-            return s.unit;
+            return unit;
         }
+        paid = dearer(paid, unit);
         i += 1;
     }
-    let lower = price.0 - price.0 / 4;
-    CentsPerBlank(lower)
+    paid
 }
