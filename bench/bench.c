@@ -1,129 +1,20 @@
 /* Times the product and the plain C methods on a book, and compares what they give: `bench BOOK RUNS` prints a line for each method, its
- * name and the milliseconds of its fastest run, and then `total T`, where T is `none` for a book that is not covered. The status is 1
- * where two methods differ in anything.
+ * name and the milliseconds of its fastest run, and then `total T`, where T is `none` for a book that is not covered. A method that takes
+ * over half a second is run once. The status is 1 where two methods differ in anything.
  */
-#include "boccelarch.h"
-#include "book.h"
+#include "methods.h"
 
 #include <inttypes.h>
 #include <stdio.h>
 #include <stdlib.h>
-#include <string.h>
-#include <time.h>
 
-struct method {
-    const char *name;
-    bool (*clear)(const struct text *text, const struct book *book, struct clearing *out);
-};
+static const double LONG = 500; /* milliseconds */
 
-static bool product(const struct text *text, const struct book *book, struct clearing *out)
-{
-    uint64_t rows[BOCCELARCH_AWARD_NUMBERS], place, total, count;
-    uint64_t number = boccelarch_award((const uint8_t *)text->bytes, text->length, rows, BOCCELARCH_AWARD_NUMBERS, &place, &total, &count);
-
-    (void)book;
-    memset(out, 0, sizeof *out);
-    if (number != BOCCELARCH_ACCEPTED) {
-        return number == BOCCELARCH_NOT_COVERED;
-    }
-    out->covered = true;
-    out->total = (int64_t)total;
-    for (size_t i = 0; i < count; i++) {
-        const uint64_t *row = rows + i * BOCCELARCH_COLUMNS;
-
-        out->quantities[i] = row[BOCCELARCH_QUANTITY];
-        out->covered_without[i] = row[BOCCELARCH_COVERED] != 0;
-        out->without[i] = (int64_t)row[BOCCELARCH_WITHOUT];
-    }
-    return true;
-}
-
-static bool plain_search(const struct text *text, const struct book *book, struct clearing *out)
-{
-    (void)text;
-    search_clear(book, out);
-    return true;
-}
-
-static bool cut_search(const struct text *text, const struct book *book, struct clearing *out)
-{
-    (void)text;
-    cut_clear(book, out);
-    return true;
-}
-
-static bool dynamic_program(const struct text *text, const struct book *book, struct clearing *out)
-{
-    (void)text;
-    return dp_clear(book, out);
-}
-
-static const struct method METHODS[] = {
-    {"product", product},
-    {"search", plain_search},
-    {"cut", cut_search},
-    {"dp", dynamic_program},
-};
-
-enum { METHOD_COUNT = sizeof METHODS / sizeof *METHODS };
-
-static double milliseconds(void)
-{
-    struct timespec t;
-
-    clock_gettime(CLOCK_MONOTONIC, &t);
-    return 1e3 * (double)t.tv_sec + (double)t.tv_nsec / 1e6;
-}
-
-static bool same(const struct clearing *a, const struct clearing *b)
-{
-    bool equal = a->covered == b->covered && a->total == b->total;
-
-    for (size_t i = 0; i < BIDS; i++) {
-        equal = equal && a->quantities[i] == b->quantities[i] && a->covered_without[i] == b->covered_without[i];
-        equal = equal && a->without[i] == b->without[i];
-    }
-    return equal;
-}
-
-static void show(const char *name, const struct clearing *c)
-{
-    fprintf(stderr, "%s: %s, total %" PRId64, name, c->covered ? "covered" : "not covered", c->total);
-    for (size_t i = 0; i < BIDS; i++) {
-        fprintf(stderr, "; %" PRIu64 " without %s %" PRId64, c->quantities[i], c->covered_without[i] ? "amount" : "none", c->without[i]);
-    }
-    fprintf(stderr, "\n");
-}
-
-/* Runs a method once: false where it fails or gives other than the product. The product is the first method and sets what it gives. */
-static bool run(size_t method, const struct text *text, const struct book *book, struct clearing *expected, double *fastest)
-{
-    struct clearing out;
-    double begun = milliseconds(), taken;
-    bool given = METHODS[method].clear(text, book, &out);
-
-    taken = milliseconds() - begun;
-    if (!given) {
-        fprintf(stderr, "%s failed\n", METHODS[method].name);
-        return false;
-    }
-    if (method == 0) {
-        *expected = out;
-    } else if (!same(expected, &out)) {
-        fprintf(stderr, "two methods differ\n");
-        show(METHODS[0].name, expected);
-        show(METHODS[method].name, &out);
-        return false;
-    }
-    *fastest = *fastest == 0 || taken < *fastest ? taken : *fastest;
-    return true;
-}
-
-/* Runs each method once, as above. */
+/* Runs each method once; false where one fails or gives other than the product. */
 static bool run_each(const struct text *text, const struct book *book, struct clearing *expected, double *fastest)
 {
     for (size_t method = 0; method < METHOD_COUNT; method++) {
-        if (!run(method, text, book, expected, &fastest[method])) {
+        if (fastest[method] <= LONG && !method_run(&METHODS[method], text, book, expected, &fastest[method])) {
             return false;
         }
     }

@@ -1,7 +1,8 @@
-/* The reader of books, and the book less one bid. */
+/* Books read and written, and the book less one bid. */
 #include "book.h"
 
 #include <inttypes.h>
+#include <stdarg.h>
 #include <stdio.h>
 #include <string.h>
 
@@ -67,6 +68,41 @@ bool book_load(const char *path, struct text *text, struct book *book)
     whole = !ferror(file) && getc(file) == EOF;
     fclose(file);
     return whole && read_book(text->bytes, book);
+}
+
+/* Puts what printf would print after the text so far, where it has room. */
+__attribute__((format(printf, 2, 3))) static void put(struct text *text, const char *format, ...)
+{
+    size_t room = sizeof text->bytes - text->length;
+    va_list values;
+    int length;
+
+    va_start(values, format);
+    length = vsnprintf(text->bytes + text->length, room, format, values);
+    va_end(values);
+    if (length >= 0 && (size_t)length < room) {
+        text->length += (size_t)length;
+    }
+}
+
+static void put_bid(struct text *text, const struct bid *bid)
+{
+    put(text, "(bid %" PRIu64, bid->bidder);
+    for (size_t j = 1; j <= bid->count; j++) {
+        const struct segment *s = &bid->segments[j];
+
+        put(text, " (seg %" PRIu64 " %" PRIu64 " %" PRIu64 " %" PRId64 ")", s->start, s->end, s->unit, s->fixed);
+    }
+    put(text, ")\n");
+}
+
+void book_write(const struct book *book, struct text *text)
+{
+    text->length = 0;
+    put(text, "(demand %" PRIu64 ")\n", book->demand);
+    for (size_t i = 0; i < book->count; i++) {
+        put_bid(text, &book->bids[i]);
+    }
 }
 
 void book_without(const struct book *book, size_t at, struct book *left)

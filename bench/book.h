@@ -43,6 +43,9 @@ struct clearing {
 /* Reads the text of an accepted book from a file, and the book from the text; false where it cannot. The rules are not checked. */
 bool book_load(const char *path, struct text *text, struct book *book);
 
+/* The text of a book. It has room for that of every accepted book. */
+void book_write(const struct book *book, struct text *text);
+
 /* The book less the bid with this index. */
 void book_without(const struct book *book, size_t at, struct book *left);
 
@@ -52,11 +55,11 @@ static inline int64_t price(const struct segment *s, uint64_t quantity)
     return (int64_t)(s->unit * quantity) + s->fixed;
 }
 
-/* The product's algorithm: every choice of segments, each complete one added up afresh, filled and compared. */
-void search_clear(const struct book *book, struct clearing *out);
+/* Every choice of segments in the product's order, each complete one added up afresh, filled and compared; all clearings. */
+void exhaustive_clear(const struct book *book, struct clearing *out);
 
-/* Another algorithm: the same search with the sums of starts and ends carried down, cut where the starts pass the demand. */
-void cut_clear(const struct book *book, struct clearing *out);
+/* The product's algorithm: the same search, less the parts where nothing better can be found; the product's clearings. */
+void bounded_clear(const struct book *book, struct clearing *out);
 
 /* A dynamic program over quantities; false where there is no memory for it. */
 bool dp_clear(const struct book *book, struct clearing *out);

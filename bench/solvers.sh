@@ -1,19 +1,25 @@
 # The solvers of mixed-integer programs: one solve of a book, and its time. For bench/run, whose variables it uses.
 # shellcheck shell=bash disable=SC2154,SC2034
 
+cents() { # a number of cents from standard input, to the nearest whole one
+    awk '{ printf "%.0f\n", $1 }'
+}
+
 solve_glpsol() { # solve_glpsol LP: prints the optimum, `none`, or nothing where there is no answer in time
-    timeout $((limit + 5)) glpsol --lp "$1" --tmlim "$limit" -w "$out/solution" >"$out/log" || true
+    timeout "$solver_limit" glpsol --lp "$1" -w "$out/solution" >"$out/log" || true
     if grep -qE 'HAS NO (PRIMAL |INTEGER )?FEASIBLE' "$out/log"; then
         echo none
     elif [ -e "$out/solution" ]; then
-        sed -n 's/^s mip [0-9]* [0-9]* o //p' "$out/solution"
+        sed -n 's/^s mip [0-9]* [0-9]* o //p' "$out/solution" | cents
     fi
 }
 
 solve_cbc() { # solve_cbc LP: likewise
-    timeout $((limit + 5)) cbc "$1" sec "$limit" solve solution "$out/solution" >"$out/log" || true
-    if [ -e "$out/solution" ]; then
-        sed -nE '1s/^Optimal - objective value //p; 1s/^(Integer i|I)nfeasible.*/none/p' "$out/solution" | sed -E 's/\.0+$//'
+    timeout "$solver_limit" cbc "$1" solve solution "$out/solution" >"$out/log" || true
+    if [ -e "$out/solution" ] && grep -qE '^(Integer i|I)nfeasible' "$out/solution"; then
+        echo none
+    elif [ -e "$out/solution" ]; then
+        sed -n '1s/^Optimal - objective value //p' "$out/solution" | cents
     fi
 }
 
@@ -31,7 +37,7 @@ solve() { # solve BOOK SOLVER: its optimum, and the milliseconds of its fastest 
             break
         fi
     done
-    if [ -z "$answer" ] && above "$limit" "$(awk "BEGIN { print $taken / 1000 }")"; then
+    if [ -z "$answer" ] && above "$((1000 * solver_limit))" "$taken"; then
         answer=unclear
     fi
     answer_of[$1 $2]=${answer:-late}

@@ -1,0 +1,30 @@
+/* A choice of a segment for each bidder, its cheapest division, and clearing by a search through choices: what the plain C searches share. */
+#ifndef CHOICE_H
+#define CHOICE_H
+
+#include "book.h"
+
+struct division {
+    bool found;
+    int64_t total;
+    uint64_t quantities[BIDS];
+};
+
+/* The segments chosen so far, and the best division so far of the book's demand. */
+struct choice {
+    const struct book *book;
+    const struct segment *chosen[BIDS];
+    struct division best;
+};
+
+/* The division of a complete choice, where it fits the demand, is compared with the best so far. */
+void choice_compare(struct choice *c);
+
+/* A search: from a choice of nothing, without a best division, it leaves the best of all divisions in c->best. */
+typedef void search(struct choice *c);
+
+/* The award of a book by a search, and the total without each bidder. Where `skip` holds, a bidder who sells nothing is not cleared again:
+ * the total without it is the award's. */
+void choice_clear(const struct book *book, search *best_of, bool skip, struct clearing *out);
+
+#endif
