@@ -4,12 +4,13 @@ use crate::compare::Comparer;
 use crate::entries::Call;
 use crate::expected::Judged;
 use crate::generate::books::{self, Plan};
+use crate::generate::families::{self, Family};
 use crate::generate::{broken, bytes, calls, limits};
 use crate::random::Random;
 
 pub type Group = (&'static str, fn(&mut Comparer, &mut Random));
 
-pub const GROUPS: [Group; 24] = [
+pub const GROUPS: [Group; 28] = [
     ("the paper's book, every demand", paper_book),
     ("small books", small_books),
     ("small books with ties", tied_books),
@@ -34,7 +35,14 @@ pub const GROUPS: [Group; 24] = [
     ("texts beside 4,096 bytes", long_texts),
     ("outputs of every length", every_length),
     ("splits of every kind", splits),
+    ("hard books: prices at all ends on a line", steps),
+    ("hard books: one giant bidder", giant),
+    ("hard books: multiples of a step and a demand that is none", parity),
+    ("hard books: prices near a line", noise),
 ];
+
+/// Books of eight bids of six segments for each family.
+const FULL_OF_A_FAMILY: usize = 5;
 
 const PAPER: &str = "(bid 3 (seg 1 60 400 0) (seg 61 100 350 -500))
 (bid 8 (seg 20 80 380 1000))
@@ -301,4 +309,37 @@ fn splits_of(comparer: &mut Comparer, random: &mut Random, plan: &Plan) {
 fn paper_splits(_: &Judged) -> Vec<Call> {
     let lists = [vec![60, 60, 0], vec![60, 10, 0], vec![100, 20, 0], vec![60, 60], vec![60, 60, 0, 0]];
     lists.into_iter().map(Call::Split).collect()
+}
+
+fn steps(comparer: &mut Comparer, random: &mut Random) {
+    family(comparer, random, families::steps);
+}
+
+fn giant(comparer: &mut Comparer, random: &mut Random) {
+    family(comparer, random, families::giant);
+}
+
+fn parity(comparer: &mut Comparer, random: &mut Random) {
+    family(comparer, random, families::parity);
+}
+
+fn noise(comparer: &mut Comparer, random: &mut Random) {
+    family(comparer, random, families::noise);
+}
+
+fn family(comparer: &mut Comparer, random: &mut Random, make: Family) {
+    for (size, count) in [(families::SMALL, 2_000), (families::FEW, 500), (families::MANY, 50)] {
+        family_of_size(comparer, random, make, &size, count);
+    }
+    for _ in 0..FULL_OF_A_FAMILY {
+        let text = make(random, &families::FULL).written();
+        comparer.text(&text, |judged| calls::once(random, judged));
+    }
+}
+
+fn family_of_size(comparer: &mut Comparer, random: &mut Random, make: Family, size: &families::Size, count: usize) {
+    for _ in 0..count {
+        let text = make(random, size).written();
+        usual(comparer, random, &text);
+    }
 }

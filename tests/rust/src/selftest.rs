@@ -6,7 +6,7 @@ use crate::clearing;
 use crate::compare::Comparer;
 use crate::entries::{Answer, Call};
 use crate::expected::Judged;
-use crate::generate::books;
+use crate::generate::{books, families};
 use crate::random::Random;
 use crate::shape::Shape;
 
@@ -167,17 +167,18 @@ fn tied(all: &[Division]) -> bool {
 fn listings(checks: &mut Checks) {
     let mut random = Random::new(71);
     let mut ties = 0;
-    for turn in 0..4_000 {
-        let mut book = match turn % 2 {
+    for turn in 0..6_000 {
+        let mut book = match turn % 3 {
             0 => books::book(&mut random, &books::SMALL),
-            _ => books::tied(&mut random, &books::SMALL),
+            1 => books::tied(&mut random, &books::SMALL),
+            _ => families::ALL[turn / 3 % 4](&mut random, &families::SMALL),
         };
         book.demand = book.demand.min(24);
         let all = divisions(&book.bids, book.demand);
         ties += u64::from(tied(&all));
         checks.check("a small book by listing all divisions", listed_well(&book, &all));
     }
-    println!("self-test: 4000 small books listed, {ties} of them with several cheapest divisions");
+    println!("self-test: 6000 small books listed, {ties} of them with several cheapest divisions");
     checks.check("ties among the small books", ties > 500);
 }
 

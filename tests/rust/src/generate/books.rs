@@ -85,10 +85,14 @@ pub fn sold(random: &mut Random, bid: &Bid) -> i64 {
     }
 }
 
+/// All last ends.
+pub fn all_ends(book: &Book) -> i64 {
+    sum(book, |bid| bid.segments[bid.segments.len() - 1].end)
+}
+
 /// Sums that a division can or just cannot reach, all first starts, all last ends, or any demand up to a little above these.
-fn demand(random: &mut Random, book: &Book) -> i64 {
-    let last = |bid: &Bid| bid.segments[bid.segments.len() - 1].end;
-    let ends = sum(book, last);
+pub fn demand(random: &mut Random, book: &Book) -> i64 {
+    let ends = all_ends(book);
     let wanted = match random.below(10) {
         0 => ends,
         1 => ends + random.between(-1, 1),

@@ -4,5 +4,6 @@ pub mod books;
 pub mod broken;
 pub mod bytes;
 pub mod calls;
+pub mod families;
 pub mod limits;
 pub mod splits;
