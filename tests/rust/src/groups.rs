@@ -42,7 +42,7 @@ pub const GROUPS: [Group; 28] = [
 ];
 
 /// Books of eight bids of six segments for each family.
-const FULL_OF_A_FAMILY: usize = 5;
+const FULL_OF_A_FAMILY: usize = 25;
 
 const PAPER: &str = "(bid 3 (seg 1 60 400 0) (seg 61 100 350 -500))
 (bid 8 (seg 20 80 380 1000))
