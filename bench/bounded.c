@@ -115,7 +115,8 @@ static void vary(struct choice *c, size_t i)
     c->chosen[i] = own;
 }
 
-/* A first division to start from: the best of those choices that differ from the favourites in at most one bidder. */
+/* A first division to start from: the best of those choices that differ from the favourites in at most one bidder, and of one that was
+ * found before. */
 static void first_division(struct choice *c, int64_t blank)
 {
     choose_favourites(c, blank);
@@ -130,20 +131,35 @@ static bool inside(const struct segment *s, uint64_t quantity)
     return s->start < quantity && quantity < s->end;
 }
 
-/* The unit price of the last bidder who stands strictly inside its segment in the first division; where there is none, three quarters of
- * the first price. */
+/* The segment of a bid that a quantity is on; segment 0 is that of nothing. */
+static const struct segment *sold_on(const struct bid *bid, uint64_t quantity)
+{
+    size_t j = bid->count;
+
+    while (0 < j && quantity < bid->segments[j].start) {
+        j--;
+    }
+    return &bid->segments[j];
+}
+
+/* In the first division the unit price of a bidder who stands strictly inside its segment, or else the largest that is paid; where there is
+ * none, three quarters of the first price. */
 static int64_t second_price(const struct choice *c, int64_t first)
 {
-    for (size_t i = c->book->count; c->best.found && i-- > 0;) {
-        const struct bid *bid = &c->book->bids[i];
+    int64_t paid = 0;
 
-        for (size_t j = 1; j <= bid->count; j++) {
-            if (inside(&bid->segments[j], c->best.quantities[i])) {
-                return (int64_t)bid->segments[j].unit;
-            }
-        }
+    if (!c->best.found) {
+        return first - first / 4;
     }
-    return first - first / 4;
+    for (size_t i = 0; i < c->book->count; i++) {
+        const struct segment *s = sold_on(&c->book->bids[i], c->best.quantities[i]);
+
+        if (inside(s, c->best.quantities[i])) {
+            return (int64_t)s->unit;
+        }
+        paid = larger(paid, (int64_t)s->unit);
+    }
+    return paid;
 }
 
 /* The sums with one more segment. */
@@ -297,6 +313,7 @@ static void bounded(struct choice *c)
 
     b.prices[0] = meeting_price(c->book);
     first_division(c, b.prices[0]);
+    first_division(c, second_price(c, b.prices[0]));
     b.prices[1] = second_price(c, b.prices[0]);
     survey(c->book, &b);
     choose(c, &b, 0, &nothing);

@@ -37,6 +37,17 @@ limits_of_usual() { # limits_of_usual BOOK: says which limits against other meth
     fi
 }
 
+limits_of_book() { # limits_of_book BOOK: says which limits of every book are missed
+    local solver
+    solver=$(faster_solver "$1")
+    if [ -n "$solver" ] && above 1 "$(times "$1" "$solver")"; then
+        echo "- $1: $solver is faster than the product."
+    fi
+    if above "${time_of[$1 product]}" "$most_book"; then
+        echo "- $1: the product takes over $most_book ms."
+    fi
+}
+
 limits_of_family() { # limits_of_family NAME: says which limits of the product on random books are missed
     local mean slowest
     read -r _ mean slowest _ <<<"${family_times[$1]}"
@@ -57,9 +68,7 @@ limits() { # says which limits are missed, a line for each
         echo "- 6-uncovered: the product takes over $most_uncovered ms."
     fi
     for book in "${books[@]}"; do
-        if above "${time_of[$book product]}" "$most_book"; then
-            echo "- $book: the product takes over $most_book ms."
-        fi
+        limits_of_book "$book"
     done
     for family in "${families[@]}"; do
         limits_of_family "$family"
