@@ -28,6 +28,7 @@ pub fn class_at(table: &[u64; 1152], i: usize) -> Sums
     }
 }
 
+// A class put into the table, which is lent as a slice: of an array that is lent to be changed, nothing says the length.
 fn put_class(table: &mut [u64], i: usize, x: Sums)
     requires { ⌜ 4 * i + 4 ≤ length (now table) ⌝ }
     ensures { λ _. ⌜ Put (now (table .entry)) i x (now (table .exit)) ⌝ }
@@ -38,6 +39,7 @@ fn put_class(table: &mut [u64], i: usize, x: Sums)
     table[4 * i + 3] = x.second;
 }
 
+// The larger of two numbers.
 fn larger(a: u64, b: u64) -> u64
     ensures { λ r. ⌜ r ≡ max a b ⌝ }
 {

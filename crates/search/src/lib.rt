@@ -1,4 +1,5 @@
-// The search for the best division of a book, through every choice of a segment for each bidder.
+// The search for the best division of a book: through every choice of a segment for each bidder, but for
+// the parts in which nothing better can be found.
 ghost use mathlib.Core.Path.{_≡_};
 ghost use mathlib.Core.Bool.{true, false};
 ghost use mathlib.Core.List.{_∷_};
