@@ -14,6 +14,11 @@ pub record Capped (prices : Prices) : Type 0 where
   pub first : prices .first .0 ≤ highest
   pub second : prices .second .0 ≤ highest
 
+-- what `at_price` asks: a price of a blank as `Capped` has it, and blanks of at most twenty bidders
+pub record Payable (l blanks : ℕ) : Type 0 where
+  pub capped : l ≤ highest
+  pub few : blanks ≤ 20000000
+
 -- what `charge_at` asks
 pub record ChargeableAt (s : Segment) (r l : ℕ) : Type 0 where
   pub sound : SoundSegment s

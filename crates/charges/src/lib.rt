@@ -1,11 +1,12 @@
 // What segments are charged by a price of a blank, and sums of it: by these the search bounds what a division costs. A charge is no
 // price that anyone pays; it is a plain number, so that it cannot be taken for one.
 ghost use mathlib.Core.Path.{_≡_};
-ghost use Prim.Native.Nat.{min};
+ghost use Prim.Native.Nat.{_*_, min};
 ghost use Rattle.charges.specs.Charge.{chargeAt, charge};
-ghost use Rattle.charges.specs.Records.{ChargeableAt, Chargeable, ChargeableBy, Addable, sumsOn, sumsWith};
+ghost use Rattle.charges.specs.Records.{Payable, ChargeableAt, Chargeable, ChargeableBy, Addable, sumsOn, sumsWith};
 use book::Segment;
 use money::Blanks;
+use money::Cents;
 use money::CentsPerBlank;
 
 // Two prices of a blank. Any will do: they only make the search faster.
@@ -32,6 +33,15 @@ pub fn smaller(a: u64, b: u64) -> u64
     a
 }
 
+// What so many blanks cost at a price, by the price rule, as a plain number. It is pub for the test whether a part of the search has
+// nothing better.
+pub fn at_price(price: CentsPerBlank, blanks: Blanks) -> u64
+    requires { ⌜ Payable (price .0) (blanks .0) ⌝ }
+    ensures { λ r. ⌜ r ≡ price .0 * blanks .0 ⌝ }
+{
+    money::magnitude(money::price(price, blanks, Cents(0)))
+}
+
 // What a quantity on a segment is charged.
 fn charge_at(s: Segment, quantity: Blanks, price: CentsPerBlank) -> u64
     requires { ⌜ ChargeableAt s (quantity .0) (price .0) ⌝ }
@@ -40,7 +50,8 @@ fn charge_at(s: Segment, quantity: Blanks, price: CentsPerBlank) -> u64
     let unit = s.unit;
     let fixed = s.fixed;
     let cents = money::magnitude(money::price(unit, quantity, fixed));
-    cents + price.0 * (1000000 - quantity.0)
+    let rest = at_price(price, Blanks(1000000 - quantity.0));
+    cents + rest
 }
 
 // What a segment is charged: as its start or its end, whichever is less. It is pub for the hints.

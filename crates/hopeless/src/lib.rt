@@ -34,8 +34,8 @@ fn dear(
     requires { ⌜ Comparable (demand .0) n (price .0) charged cents ⌝ }
     ensures { λ r. ⌜ (r ≡ true → Above (demand .0) n (price .0) charged cents ties) ⌝ }
 {
-    let limit = cents + price.0 * (1000000 * (n as u64));
-    let bound = charged + price.0 * demand.0;
+    let limit = cents + charges::at_price(price, Blanks(1000000 * (n as u64)));
+    let bound = charged + charges::at_price(price, demand);
     if ties {
         return limit <= bound;
     }

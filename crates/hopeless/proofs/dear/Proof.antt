@@ -1,5 +1,5 @@
 -- Nothing wraps, by the ranges of what is asked, and the comparison is that of the contract.
-use Prim.Native.Nat.{ℕ, _*_, _≤_}
+use Prim.Native.Nat.{ℕ, _+_, _*_, _≤_}
 use native.Mathlib.Nat.{mul-le-mul}
 use native.Mathlib.Omega.{arith}
 use mathlib.Core.Logic.{inl, inr}
@@ -17,26 +17,30 @@ module _ {demand n l charged cents : ℕ} (asked : Comparable demand n l charged
   demanded : l * demand ≤ highest * 20000000
   demanded = mul-le-mul (asked .capped) (asked .in-reach)
 
-mul-limit : tie.Need-mul-limit
-mul-limit c = search needs
-
-mul-limit-2 : tie.Need-mul-limit-2
-mul-limit-2 c = omega (arith, all-blanks (c .before .pre))
-
 add-limit : tie.Need-add-limit
-add-limit c = omega (arith, all-blanks (c .before .pre), c .before .pre .price)
-
-mul-bound : tie.Need-mul-bound
-mul-bound c = omega (arith, demanded (c .before .before .before .pre))
+add-limit c = omega (arith, c .at-price .ensures, all-blanks (c .before .pre), c .before .pre .price)
 
 add-bound : tie.Need-add-bound
-add-bound c = omega (arith, demanded (c .before .before .before .pre), c .before .before .before .pre .small)
+add-bound c = omega (arith, c .at-price2 .ensures, demanded (c .before .before .pre), c .before .before .pre .small)
+
+-- Places: what is compared, the cost of the best so far and what the charges say, as the code has them.
+abbrev limit : tie.After-at-price2 → ℕ
+limit c = c .before .before .args .cents + c .before .at-price .result
+
+abbrev bound : tie.After-at-price2 → ℕ
+bound c = c .before .before .args .charged + c .at-price2 .result
 
 returns : tie.Need-returns
-returns c = λ e. inr (c .if1 .taken, leb-true _ _ e)
+returns c =
+    let b = c .before in
+    λ e. inr (c .if1 .taken, omega (arith, b .before .at-price .ensures, b .at-price2 .ensures, leb-true (limit b) (bound b) e))
 
 returns-2 : tie.Need-returns-2
-returns-2 c = λ e. inl (ltb-true _ _ e)
+returns-2 c =
+    let b = c .before in
+    λ e. inl (omega (arith, b .before .at-price .ensures, b .at-price2 .ensures, ltb-true (limit b) (bound b) e))
 
 pub dear-spec : {M : Type 1} → statement M
-dear-spec = tie.close (tie.spec mul-limit mul-limit-2 add-limit mul-bound add-bound returns returns-2)
+dear-spec =
+    tie.close
+    (tie.spec (λ c. search needs) (λ c κs. search needs) add-limit (λ c κs. search needs) add-bound returns returns-2)
