@@ -124,6 +124,7 @@ $(family_rows)
 What is asked of the product:
 
 - on ${usual:2} the faster solver takes at least $least_solver times as long, and the exhaustive plain C search at least $least_exhaustive times;
+- no solver that gives the right total is faster on a book;
 - \`6-uncovered\` takes at most $most_uncovered ms;
 - no book takes over $most_book ms, and no family over $most_mean ms in the mean.
 
