@@ -13,7 +13,7 @@
  * functions keep no state, allocate nothing and may be called from several threads at once.
  *
  * A thread with a stack of 64 KB can call each of them: tests/boundary/run checks it on a book of eight bids of six segments.
- * boccelarch_sheet and boccelarch_award try every choice of segments: most books take milliseconds, eight bids of six segments can take
+ * With boccelarch_sheet and boccelarch_award most books are cleared in about a millisecond or less, the slowest known in about a quarter of
  * a second (bench/RESULTS.md).
  *
  * That the functions answer what docs/CLAIMS.md states is proved, for every text and every length.
