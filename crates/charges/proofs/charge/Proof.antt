@@ -9,18 +9,6 @@ use Rattle.charges.proofs.charge.Tie as tie
 abbrev start : tie.After-smaller2 → tie.Start
 start c = c .before .before .before .before .before
 
-smaller-requires : tie.Need-smaller-requires
-smaller-requires c κs = search needs
-
-charge-at-requires : tie.Need-charge-at-requires
-charge-at-requires c κs = search needs
-
-charge-at-requires-2 : tie.Need-charge-at-requires-2
-charge-at-requires-2 c κs = search needs
-
-smaller-requires-2 : tie.Need-smaller-requires-2
-smaller-requires-2 c κs = search needs
-
 returns : tie.Need-returns
 unfolding charge
 returns c =
@@ -28,4 +16,4 @@ returns c =
     c .smaller2 .ensures ∙ ap₂ min (c .before .before .charge-at .ensures) at-end
 
 pub charge-spec : {M : Type 1} → statement M
-charge-spec = tie.close (tie.spec smaller-requires charge-at-requires charge-at-requires-2 smaller-requires-2 returns)
+charge-spec = tie.close (tie.spec (λ c κs. search needs) (λ c κs. search needs) (λ c κs. search needs) (λ c κs. search needs) returns)

@@ -3,16 +3,10 @@ use borrow.Author.Needs.{needs}
 use Rattle.charges.proofs.charged.Statement.{statement}
 use Rattle.charges.proofs.charged.Tie as tie
 
-charge-requires : tie.Need-charge-requires
-charge-requires c κs = search needs
-
-charge-requires-2 : tie.Need-charge-requires-2
-charge-requires-2 c κs = search needs
-
 returns : tie.Need-returns
 returns c =
     let s = c .before .before .before .before .before .before in
     λ i. record { low = s .args .s .start; high = s .args .s .end; first = c .before .charge .ensures i; second = c .charge2 .ensures i }
 
 pub charged-spec : {M : Type 1} → statement M
-charged-spec = tie.close (tie.spec charge-requires charge-requires-2 returns)
+charged-spec = tie.close (tie.spec (λ c κs. search needs) (λ c κs. search needs) returns)

@@ -15,12 +15,6 @@ abbrev μ-loop : tie.MeasureT-loop
 add-j : tie.Need-add-j Inv-loop μ-loop
 add-j c = omega (arith, c .before .pre .accepted .count-high)
 
-loop-holds : tie.Need-loop-holds Inv-loop μ-loop
-loop-holds c = search needs
-
-sub-j : tie.Need-sub-j Inv-loop μ-loop
-sub-j c = search needs
-
 segment-of-requires : tie.Need-segment-of-requires Inv-loop μ-loop
 segment-of-requires c κs = record { held = c .before .before .before .pre .accepted .count-high; within = omega (arith, c .before .loop .inv) }
 
@@ -30,27 +24,6 @@ charge-requires c κs =
     let s = a .before .before .before .before in
     record { sound = hinted-segment (s .args .bid) (s .pre .accepted) _ (a .segment-of .result) (a .segment-of .ensures); capped = s .pre .capped }
 
-loop-less : tie.Need-loop-less Inv-loop μ-loop
-loop-less c = search needs
-
-loop-again : tie.Need-loop-again Inv-loop μ-loop
-loop-again c = search needs
-
-loop-less-2 : tie.Need-loop-less-2 Inv-loop μ-loop
-loop-less-2 c = search needs
-
-loop-again-2 : tie.Need-loop-again-2 Inv-loop μ-loop
-loop-again-2 c = search needs
-
-loop-less-3 : tie.Need-loop-less-3 Inv-loop μ-loop
-loop-less-3 c = search needs
-
-loop-again-3 : tie.Need-loop-again-3 Inv-loop μ-loop
-loop-again-3 c = search needs
-
-returns : tie.Need-returns Inv-loop μ-loop
-returns c = search needs
-
 pub favourite-spec : {M : Type 1} → statement M
 favourite-spec =
     tie.close
@@ -58,14 +31,14 @@ favourite-spec =
     Inv-loop
     μ-loop
     add-j
-    loop-holds
-    sub-j
+    (λ c. search needs)
+    (λ c. search needs)
     segment-of-requires
     charge-requires
-    loop-less
-    loop-again
-    loop-less-2
-    loop-again-2
-    loop-less-3
-    loop-again-3
-    returns)
+    (λ c. search needs)
+    (λ c. search needs)
+    (λ c. search needs)
+    (λ c. search needs)
+    (λ c. search needs)
+    (λ c. search needs)
+    (λ c. search needs))

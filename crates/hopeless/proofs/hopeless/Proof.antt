@@ -56,12 +56,6 @@ up-to-this P i below this k h = go (decLt k i)
 abbrev turn : tie.Else1 Inv-loop μ-loop → tie.In-loop Inv-loop μ-loop
 turn c = c .before .before .before
 
-sub-class-count : tie.Need-sub-class-count Inv-loop μ-loop
-sub-class-count c = search needs
-
-class-count-requires : tie.Need-class-count-requires Inv-loop μ-loop
-class-count-requires c κs = search needs
-
 loop-holds : tie.Need-loop-holds Inv-loop μ-loop
 loop-holds c = (omega arith, λ k h. absurd (omega arith))
 
@@ -118,8 +112,8 @@ hopeless-spec =
     (tie.spec
     Inv-loop
     μ-loop
-    sub-class-count
-    class-count-requires
+    (λ c. search needs)
+    (λ c κs. search needs)
     loop-holds
     mul-class-at
     add-class-at
