@@ -49,9 +49,10 @@ pub record Testing (demand n : ℕ) (prices : Prices) (table : List ℕ) (c : Ch
   pub graded : Graded table
   pub sums-of : SumsOf demand prices (chosen c) sums
 
--- what `search` asks: a book, a choice for the first of its bidders, for none or for all, with its sums, and the classes of the others
+-- what `search` asks: a book, a choice for the first of its bidders but not for all, with its sums, and the classes of the others
 pub record Searching (book : Book) (prices : Prices) (table : List ℕ) (c : Choice) (sums : Sums) : Type 0 where
   pub choice-of : ChoiceOf book c
+  pub further : c .count < book .count
   pub capped : Capped prices
   pub surveyed : Surveyed book prices table
   pub sums-of : SumsOf (book .demand .0) prices (chosen c) sums

@@ -76,8 +76,8 @@ fn lost(
 }
 
 // A segment is chosen for the next bidder, each in turn from its last to segment 0, and the search
-// calls itself for the bidders after it, unless nothing better can be found there; after the last the
-// choice is complete. It returns the best division so far.
+// calls itself for the bidders after it, unless nothing better can be found there; with a segment of
+// the last the choice is complete. It returns the best division so far.
 fn search(
     book: Book,
     table: &[u64; 1152],
@@ -90,12 +90,12 @@ fn search(
     ensures { λ r. ⌜ found (book .count) r ≡ search (book .demand .0) (drop (c .count) (suppliesOf (bookEntries book .bids))) (chosen c) (found (book .count) best) ⌝ }
 {
     let demand = book.demand;
-    let at = c.count;
     let n = book.count;
-    let left = n - at;
-    if left == 0 {
-        return leaf(demand, c, best);
+    if lost(table, demand, n, prices, c, sums, best) {
+        return best;
     }
+    let at = c.count;
+    let left = n - at;
     let bid = book.bids[at];
     let mut so_far = best;
     let mut j = bid.count + 1;
@@ -105,7 +105,9 @@ fn search(
         let more = charges::plus(sums, charges::charged(s, demand, prices));
         if !hopeless::hopeless(table, at + 1, demand, n, prices, more, false, so_far) {
             let next = choose(c, s);
-            if !lost(table, demand, n, prices, next, more, so_far) {
+            if left == 1 {
+                so_far = leaf(demand, next, so_far);
+            } else {
                 so_far = search(book, table, prices, next, more, so_far);
             }
         }
@@ -145,6 +147,10 @@ pub fn best_division(book: Book) -> MaybeDivision
     requires { ⌜ Searchable (bookEntries book) ⌝ }
     ensures { λ r. ⌜ found (book .count) r ≡ awardOf (book .demand .0) (suppliesOf (bookEntries book .bids)) ⌝ }
 {
+    if book.count == 0 {
+        let demand = book.demand;
+        return leaf(demand, no_choice(), no_division());
+    }
     let beginning = first::begin(book);
     let prices = beginning.prices;
     let best = beginning.best;

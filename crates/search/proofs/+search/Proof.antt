@@ -2,7 +2,7 @@
 -- is passed over, the search with it would leave the best so far as it is.
 use Prim.Native.Nat.{ℕ, suc, _+_, _-_, _≤_, _<_}
 use native.Mathlib.Omega.{arith}
-use mathlib.Core.Bool.{Bool, true, false, false≢true}
+use mathlib.Core.Bool.{true, false, false≢true}
 use mathlib.Core.List.{List, _∷_}
 use mathlib.Core.Path.{_≡_, sym, ap, _∙_, subst}
 use borrow.Author.Needs.{needs}
@@ -28,7 +28,7 @@ use Rattle.meritorder.specs.Records.{chosen}
 use Rattle.charges.specs.declared.Sums.{Sums}
 use Rattle.charges.specs.Records.{SumsOf, UpTo, sumsOn, sumsWith}
 use Rattle.charges.proofs.Sizes.{one-up-to, up-to-small, sums-next, sums-up-to}
-use Rattle.hopeless.specs.Hopeless.{GivesMore, NothingBetter}
+use Rattle.hopeless.specs.Hopeless.{NothingBetter}
 use Rattle.search.specs.Searchable.{ChoiceOf}
 use Rattle.search.proofs.Steps.{for-all, each-none, each-next, each-all, tried, bidders-done, bidders-next, not-full, accepted-next, choosable}
 use Rattle.search.proofs.Cuts.{length-chosen, small-sums, cut}
@@ -57,8 +57,8 @@ search-below t = and 1 search-kinds.ps (falls 1 search-kinds.ps _<_ μ-search t)
 
 abbrev R : ℕ → search-lts.Claims
 R t = (
-  leaf-reads.Asked,
-  leaf-reads.Learnt,
+  lost-reads.Asked,
+  lost-reads.Learnt,
   segment-of-reads.Asked,
   segment-of-reads.Learnt,
   charged-reads.Asked,
@@ -69,20 +69,20 @@ R t = (
   hopeless-reads.Learnt,
   choose-reads.Asked,
   choose-reads.Learnt,
-  lost-reads.Asked,
-  lost-reads.Learnt,
+  leaf-reads.Asked,
+  leaf-reads.Learnt,
   search-below t,
   search′.Post,
 )
 
 abbrev search-Inv-loop : search-lts.InvT-loop
-search-Inv-loop table prices c sums book demand at n left bid so-far₀ j₀ so-far j =
+search-Inv-loop table prices c sums book demand n at left bid so-far₀ j₀ so-far j =
     let later = drop (c .count + 1) (suppliesOf (bookEntries book .bids)) in
     let from = drop j (supplyOf (bidEntries bid)) in
     (j ≤ bid .count + 1) × (found (book .count) so-far ≡ each (tried (book .demand .0) later (chosen c)) from (found (book .count) so-far₀))
 
 abbrev search-μ-loop : search-lts.MeasureT-loop
-search-μ-loop table prices c sums book demand at n left bid so-far₀ j₀ so-far j = j
+search-μ-loop table prices c sums book demand n at left bid so-far₀ j₀ so-far j = j
 
 -- What is known of the book, and of the next bidder where there is one.
 
@@ -93,7 +93,7 @@ abbrev Bidder : ℕ → Type 0
 Bidder t = search-lts.Else1 (R t) (search-at t) search′.Post search-Inv-loop search-μ-loop
 
 abbrev start : (t : ℕ) → Bidder t → Start t
-start t c = c .before .before
+start t c = c .before .before .before
 
 held : (t : ℕ) (s : Start t) → s .args .t1 .count ≤ length (s .args .t1 .bids)
 held t s =
@@ -101,7 +101,7 @@ held t s =
     omega (arith, s .pre .1 .choice-of .searchable .few)
 
 further : (t : ℕ) (c : Bidder t) → start t c .args .c .count < start t c .args .t1 .count
-further t c = omega (arith, start t c .pre .1 .choice-of .within, c .if1 .left)
+further t c = start t c .pre .1 .further
 
 few : (t : ℕ) (c : Bidder t) → start t c .args .c .count < 8
 few t c = not-full (start t c .pre .1 .choice-of) (further t c)
@@ -174,14 +174,13 @@ turn-done t c r found-next =
     (omega (arith, i .inv .0), again)
 
 -- It is done too where the search with that segment has nothing better.
-passed-over : (t : ℕ) (c : search-lts.After-plus (R t) (search-at t) search′.Post search-Inv-loop search-μ-loop) (ties : Bool)
+passed-over : (t : ℕ) (c : search-lts.After-plus (R t) (search-at t) search′.Post search-Inv-loop search-μ-loop)
     → let l = c .before .before in
     let s = start t (bidder t l) in
     let so-far = l .before .before .loop .so-far in
-    (ties ≡ true → GivesMore (segment t l ∷ chosen (s .args .c)) so-far)
-    → NothingBetter (s .args .t1 .demand .0) (s .args .t1 .count) (s .args .prices) (s .args .table .now) (s .args .c .count + 1) (c .plus .result) ties so-far
+    NothingBetter (s .args .t1 .demand .0) (s .args .t1 .count) (s .args .prices) (s .args .table .now) (s .args .c .count + 1) (c .plus .result) false so-far
     → Done t l so-far
-passed-over t c ties wins nothing =
+passed-over t c nothing =
     let l = c .before .before in
     let e = bidder t l in
     let s = start t e in
@@ -189,7 +188,7 @@ passed-over t c ties wins nothing =
     let p = s .pre .1 in
     let so-far = l .before .before .loop .so-far in
     turn-done t l so-far
-    (cut (a .t1) (a .prices) (a .table .now) (p .choice-of .searchable) (p .surveyed) (held t s) (a .c .count + 1) (omega (arith, further t e)) (segment t l ∷ chosen (a .c)) (sound-next t l) (length-next t l) (c .plus .result) (sums-with t c) ties so-far wins nothing)
+    (cut (a .t1) (a .prices) (a .table .now) (p .choice-of .searchable) (p .surveyed) (held t s) (a .c .count + 1) (omega (arith, further t e)) (segment t l ∷ chosen (a .c)) (sound-next t l) (length-next t l) (c .plus .result) (sums-with t c) false so-far (λ h. absurd (false≢true h)) nothing)
 
 -- the choice made, with the segment of this turn
 chosen-now : (t : ℕ) (c : search-lts.After-choose (R t) (search-at t) search′.Post search-Inv-loop search-μ-loop)
@@ -199,20 +198,24 @@ chosen-now t c =
     let l = c .before .before .before .before .before in
     c .choose .ensures .1 .0 ∙ ap (λ (x : Segment). x ∷ chosen (start t (bidder t l) .args .c)) (l .segment-of .ensures .1)
 
-search-sub-left : (t : ℕ) → search-lts.Need-sub-left (R t) (search-at t) search′.Post search-Inv-loop search-μ-loop
-search-sub-left t c = omega (arith, c .before .pre .1 .choice-of .within)
-
-search-leaf-requires : (t : ℕ) → search-lts.Need-leaf-requires (R t) (search-at t) search′.Post search-Inv-loop search-μ-loop
-search-leaf-requires t c κs = c .before .before .pre .1 .choice-of .choice
+search-lost-requires : (t : ℕ) → search-lts.Need-lost-requires (R t) (search-at t) search′.Post search-Inv-loop search-μ-loop
+search-lost-requires t c κs =
+    let p = c .before .pre .1 in
+    let of = p .choice-of in
+    record { few = of .searchable .few; within = of .within; choice = of .choice; capped = p .capped; graded = p .surveyed .graded; sums-of = p .sums-of }
 
 search-returns : (t : ℕ) → search-lts.Need-returns (R t) (search-at t) search′.Post search-Inv-loop search-μ-loop
 search-returns t c =
     let s = c .before .before .before in
     let a = s .args in
-    let b = a .t1 in
-    let same : a .c .count ≡ b .count = omega (arith, s .pre .1 .choice-of .within, c .before .if1 .taken) in
-    for-all (a .c .count) (b .count) (c .leaf .result) (a .best) (leaf (b .demand .0) (chosen (a .c))) same (c .leaf .ensures)
-    ∙ sym (bidders-done (b .bids) (b .count) (held t s) (b .demand .0) (a .c .count) (chosen (a .c)) (found (b .count) (a .best)) (omega arith))
+    let p = s .pre .1 in
+    let of = p .choice-of in
+    let l = c .before .lost .ensures in
+    let yes = c .if1 .taken in
+    cut (a .t1) (a .prices) (a .table .now) (of .searchable) (p .surveyed) (held t s) (a .c .count) (of .within) (chosen (a .c)) (of .choice .each) (length-chosen (a .c)) (a .sums) (p .sums-of) true (a .best) (λ _. l .0 yes) (l .1 yes)
+
+search-sub-left : (t : ℕ) → search-lts.Need-sub-left (R t) (search-at t) search′.Post search-Inv-loop search-μ-loop
+search-sub-left t c = omega (arith, c .before .before .before .pre .1 .further)
 
 search-mul-bid : (t : ℕ) → search-lts.Need-mul-bid (R t) (search-at t) search′.Post search-Inv-loop search-μ-loop
 search-mul-bid t c = omega (arith, few t c)
@@ -227,9 +230,6 @@ search-loop-holds : (t : ℕ) → search-lts.Need-loop-holds (R t) (search-at t)
 search-loop-holds t c =
     let b = bid t (c .before .before) in
     (omega arith, each-none _ (supplyOf (bidEntries b)) _ (b .count + 1) (few-segments b))
-
-search-sub-j : (t : ℕ) → search-lts.Need-sub-j (R t) (search-at t) search′.Post search-Inv-loop search-μ-loop
-search-sub-j t c = search needs
 
 search-segment-of-requires : (t : ℕ) → search-lts.Need-segment-of-requires (R t) (search-at t) search′.Post search-Inv-loop search-μ-loop
 search-segment-of-requires t c κs =
@@ -273,19 +273,28 @@ search-choose-requires t c κs =
     let tried-next = t′ .segment-of .ensures in
     choosable (start t e .pre .1 .choice-of) (further t e) (held t (start t e)) _ _ (tried-next .0) (tried-next .1)
 
-search-lost-requires : (t : ℕ) → search-lts.Need-lost-requires (R t) (search-at t) search′.Post search-Inv-loop search-μ-loop
-search-lost-requires t c κs =
-    let w = c .before .before .before in
-    let e = bidder t (w .before .before) in
-    let s = start t e in
-    let p = s .pre .1 in
-    let next = c .choose .ensures in
-    let sums = subst (λ (c : List Segment). SumsOf (s .args .t1 .demand .0) (s .args .prices) c (w .plus .result)) (sym (chosen-now t c)) (sums-with t w) in
-    record { few = p .choice-of .searchable .few; within = omega (arith, next .0, further t e); choice = next .1 .1; capped = p .capped; graded = p .surveyed .graded; sums-of = sums }
+search-leaf-requires : (t : ℕ) → search-lts.Need-leaf-requires (R t) (search-at t) search′.Post search-Inv-loop search-μ-loop
+search-leaf-requires t c κs = c .before .choose .ensures .1 .1
+
+search-loop-again : (t : ℕ) → search-lts.Need-loop-again (R t) (search-at t) search′.Post search-Inv-loop search-μ-loop
+search-loop-again t c =
+    let h = c .before .before in
+    let l = h .before .before .before .before .before in
+    let s = start t (bidder t l) in
+    let a = s .args in
+    let b = a .t1 in
+    let so-far = l .before .before .loop .so-far in
+    let last : a .c .count + 1 ≡ b .count = omega (arith, c .before .if3 .taken, s .pre .1 .further) in
+    let whole = h .choose .ensures .0 ∙ last in
+    let found-next =
+    for-all (h .choose .result .count) (b .count) (c .leaf .result) so-far (leaf (b .demand .0) (chosen (h .choose .result))) whole (c .leaf .ensures)
+    ∙ ap (λ (x : List Segment). leaf (b .demand .0) x (found (b .count) so-far)) (chosen-now t h)
+    ∙ sym (bidders-done (b .bids) (b .count) (held t s) (b .demand .0) (a .c .count + 1) _ _ (omega (arith, last))) in
+    turn-done t l (c .leaf .result) found-next
 
 search-search-requires : (t : ℕ) → search-lts.Need-search-requires (R t) (search-at t) search′.Post search-Inv-loop search-μ-loop
 search-search-requires t c κs =
-    let h = c .before .before in
+    let h = c .before in
     let w = h .before .before .before in
     let e = bidder t (w .before .before) in
     let s = start t e in
@@ -294,43 +303,22 @@ search-search-requires t c κs =
     let now = s .pre .0 in
     let next = h .choose .ensures in
     let count = next .0 in
+    let other = c .if3 .left in
     let sums = subst (λ (c : List Segment). SumsOf (s .args .t1 .demand .0) (s .args .prices) c (w .plus .result)) (sym (chosen-now t h)) (sums-with t w) in
     let of : ChoiceOf (s .args .t1) (h .choose .result) = record { searchable = p .choice-of .searchable; choice = next .1 .1; within = omega arith } in
-    (omega arith, record { choice-of = of; capped = p .capped; surveyed = p .surveyed; sums-of = sums })
+    (omega arith, record { choice-of = of; further = omega arith; capped = p .capped; surveyed = p .surveyed; sums-of = sums })
 
-search-loop-less : (t : ℕ) → search-lts.Need-loop-less (R t) (search-at t) search′.Post search-Inv-loop search-μ-loop
-search-loop-less t c = search needs
-
-search-loop-again : (t : ℕ) → search-lts.Need-loop-again (R t) (search-at t) search′.Post search-Inv-loop search-μ-loop
-search-loop-again t c =
-    let h = c .before .before .before in
+search-loop-again-2 : (t : ℕ) → search-lts.Need-loop-again-2 (R t) (search-at t) search′.Post search-Inv-loop search-μ-loop
+search-loop-again-2 t c =
+    let h = c .before .before in
     let chosen-next = h .choose .ensures in
     let l = h .before .before .before .before .before in
     let found-next = rw (chosen-next .1 .0, chosen-next .0, l .segment-of .ensures .1) at (c .search .ensures) in
     turn-done t l (c .search .result) found-next
 
-search-loop-less-2 : (t : ℕ) → search-lts.Need-loop-less-2 (R t) (search-at t) search′.Post search-Inv-loop search-μ-loop
-search-loop-less-2 t c = search needs
-
-search-loop-again-2 : (t : ℕ) → search-lts.Need-loop-again-2 (R t) (search-at t) search′.Post search-Inv-loop search-μ-loop
-search-loop-again-2 t c =
-    let h = c .before .before in
-    let w = h .before .before .before in
-    let l = w .before .before in
-    let s = start t (bidder t l) in
-    let a = s .args in
-    let so-far = l .before .before .loop .so-far in
-    let yes = not-false _ (c .if3 .left) in
-    let wins = subst (λ (c : List Segment). GivesMore c so-far) (chosen-now t h) (c .before .lost .ensures .0 yes) in
-    let nothing = subst (λ (at : ℕ). NothingBetter (a .t1 .demand .0) (a .t1 .count) (a .prices) (a .table .now) at (w .plus .result) true so-far) (h .choose .ensures .0) (c .before .lost .ensures .1 yes) in
-    passed-over t w true (λ _. wins) nothing
-
-search-loop-less-3 : (t : ℕ) → search-lts.Need-loop-less-3 (R t) (search-at t) search′.Post search-Inv-loop search-μ-loop
-search-loop-less-3 t c = search needs
-
 search-loop-again-3 : (t : ℕ) → search-lts.Need-loop-again-3 (R t) (search-at t) search′.Post search-Inv-loop search-μ-loop
 search-loop-again-3 t c =
-    passed-over t (c .before .before) false (λ h. absurd (false≢true h)) (c .before .hopeless .ensures (not-false _ (c .if2 .left)))
+    passed-over t (c .before .before) (c .before .hopeless .ensures (not-false _ (c .if2 .left)))
 
 search-returns-2 : (t : ℕ) → search-lts.Need-returns-2 (R t) (search-at t) search′.Post search-Inv-loop search-μ-loop
 search-returns-2 t c =
@@ -348,26 +336,26 @@ pub +search-spec : {M : Type 1} → statement M
     search′.Post
     search-Inv-loop
     search-μ-loop
-    (search-sub-left t)
-    (search-leaf-requires t)
+    (search-lost-requires t)
     (search-returns t)
+    (search-sub-left t)
     (search-mul-bid t)
     (search-element-copy-out-bid t)
     (search-add-j t)
     (search-loop-holds t)
-    (search-sub-j t)
+    (λ c. search needs)
     (search-segment-of-requires t)
     (search-charged-requires t)
     (search-plus-requires t)
     (search-add-hopeless t)
     (search-hopeless-requires t)
     (search-choose-requires t)
-    (search-lost-requires t)
-    (search-search-requires t)
-    (search-loop-less t)
+    (search-leaf-requires t)
+    (λ c. search needs)
     (search-loop-again t)
-    (search-loop-less-2 t)
+    (search-search-requires t)
+    (λ c. search needs)
     (search-loop-again-2 t)
-    (search-loop-less-3 t)
+    (λ c. search needs)
     (search-loop-again-3 t)
     (search-returns-2 t)
