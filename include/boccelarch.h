@@ -13,8 +13,8 @@
  * functions keep no state, allocate nothing and may be called from several threads at once.
  *
  * A thread with a stack of 64 KB can call each of them: tests/boundary/run checks it on a book of eight bids of six segments.
- * With boccelarch_sheet and boccelarch_award most books are cleared in about a millisecond or less, the slowest known in about a quarter of
- * a second (bench/RESULTS.md).
+ * With boccelarch_sheet and boccelarch_award most books are cleared in about a millisecond or less, the slowest known in 0.12 s
+ * (bench/RESULTS.md).
  *
  * That the functions answer what docs/CLAIMS.md states is proved, for every text and every length.
  */
