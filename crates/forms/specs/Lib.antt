@@ -10,3 +10,5 @@ pub mod Many
 pub mod Signed
 pub mod Spaced
 pub mod Place
+pub mod Money
+pub mod Column
