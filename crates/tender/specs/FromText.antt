@@ -4,6 +4,7 @@ use mathlib.Core.List.{List}
 use Rattle.refusal.specs.Checks.{whenAccepted}
 use Rattle.output.specs.declared.TextWritten.{TextWritten}
 use Rattle.output.specs.Writing.{writtenOf, outputAfter}
+use Rattle.award.specs.declared.Award.{Award}
 use Rattle.sheettext.specs.Sheet.{sheetText, refusalText}
 use Rattle.clearing.specs.declared.Clearing.{Clearing}
 use Rattle.clearing.specs.Clearing.{clearOf, refusedClearing}
@@ -12,13 +13,25 @@ use Rattle.bookanswers.specs.BookAnswers.{answerOf}
 unfoldable pub clearText : List ℕ → Clearing
 clearText t = answerOf clearOf refusedClearing t
 
--- the sheet of the award: refused by 1, 2, 3 to 8, then 9, then 10
-unfoldable pub sheetWritten : List ℕ → ℕ → TextWritten
-sheetWritten t size = writtenOf (clearText t .verdict) (sheetText (clearText t .award)) size
+-- ---- the award written as a text, of which `text` says what it is: refused by 1, 2, 3 to 8, then 9, then 10
 
-unfoldable pub sheetOutput : List ℕ → List ℕ → List ℕ
-sheetOutput t out = outputAfter (clearText t .verdict) (sheetText (clearText t .award)) out
+unfoldable pub writtenAs : (Award → List ℕ) → List ℕ → ℕ → TextWritten
+writtenAs text t size = writtenOf (clearText t .verdict) (text (clearText t .award)) size
 
--- what the program `clear` prints: the sheet, or the line of the refusal
-unfoldable pub clearPrints : List ℕ → List ℕ
-clearPrints t = whenAccepted (clearText t .verdict) (sheetText (clearText t .award)) (refusalText (clearText t .verdict))
+unfoldable pub outputAs : (Award → List ℕ) → List ℕ → List ℕ → List ℕ
+outputAs text t out = outputAfter (clearText t .verdict) (text (clearText t .award)) out
+
+-- what a program prints: that text, or the line of the refusal
+unfoldable pub printedAs : (Award → List ℕ) → List ℕ → List ℕ
+printedAs text t = whenAccepted (clearText t .verdict) (text (clearText t .award)) (refusalText (clearText t .verdict))
+
+-- ---- the sheet, and what the program `clear` prints
+
+abbrev pub sheetWritten : List ℕ → ℕ → TextWritten
+sheetWritten = writtenAs sheetText
+
+abbrev pub sheetOutput : List ℕ → List ℕ → List ℕ
+sheetOutput = outputAs sheetText
+
+abbrev pub clearPrints : List ℕ → List ℕ
+clearPrints = printedAs sheetText

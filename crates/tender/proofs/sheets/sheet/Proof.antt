@@ -5,7 +5,7 @@ use mathlib.Core.Path.{refl}
 use borrow.Author.Needs.{needs}
 use Rattle.sheettext.specs.Sheet.{sheetText}
 use Rattle.clearing.specs.declared.Clearing.{Clearing}
-use Rattle.tender.specs.FromText.{sheetWritten, sheetOutput}
+use Rattle.tender.specs.FromText.{writtenAs, outputAs}
 use Rattle.bookanswers.proofs.Answers.{none-written, text-written}
 use Rattle.tender.proofs.sheets.sheet.Statement.{statement}
 use Rattle.tender.proofs.sheets.sheet.Tie as tie
@@ -14,13 +14,13 @@ abbrev text : Clearing → List ℕ
 text cleared = sheetText (cleared .award)
 
 returns : tie.Need-returns
-unfolding sheetWritten sheetOutput
+unfolding writtenAs outputAs
 returns c =
     let is = c .before .before .before .clear .ensures in
     none-written (λ (r : Clearing). r .verdict) is (c .before .enum-told .given .1) text _ (c .refused .ensures)
 
 returns-2 : tie.Need-returns-2
-unfolding sheetWritten sheetOutput
+unfolding writtenAs outputAs
 returns-2 c =
     let write = c .before .before .write in
     let told = c .before .before .before .before .before in
