@@ -90,12 +90,16 @@ module _ (t : List ℕ) (accepted : clearText t .verdict ≡ Accepted) where
       go Accepted e = e
       go (Refused rule place) e = refused-not (rw e at accepted)
 
-  pub record-cleared : clearOf (bookOf t) .verdict ≡ Accepted
+  record-cleared : clearOf (bookOf t) .verdict ≡ Accepted
   record-cleared = ap (λ (c : Clearing). c .verdict) (sym (cleared-book t was-read)) ∙ accepted
 
-  pub eight-bids : length (readOf t .book .bids) ≡ 8
-  eight-bids = arrays-read t was-read .bids
+  -- what holds of every record that is cleared and of its award holds of the text's
+  pub of-records : (P : BookEntries → Award → Type 0)
+      → ((book : Book) → length (book .bids) ≡ 8 → clearOf (bookEntries book) .verdict ≡ Accepted → P (bookEntries book) (clearOf (bookEntries book) .award))
+      → P (bookOf t) (clearText t .award)
+  of-records P h =
+      subst (λ (c : Clearing). P (bookOf t) (c .award)) (sym (cleared-book t was-read))
+      (h (readOf t .book) (arrays-read t was-read .bids) record-cleared)
 
   pub its-award : TheAward (bookOf t) (clearText t .award)
-  its-award =
-      subst (λ (c : Clearing). TheAward (bookOf t) (c .award)) (sym (cleared-book t was-read)) (the-award (readOf t .book) eight-bids record-cleared)
+  its-award = of-records TheAward the-award

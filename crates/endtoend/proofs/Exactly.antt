@@ -19,34 +19,35 @@ use Rattle.book.specs.Entries.{BookEntries, bookEntries}
 use Rattle.book.proofs.Refusals.{never-by}
 use Rattle.booktext.specs.Record.{bookRecord}
 use Rattle.output.specs.declared.TextWritten.{TextWritten}
+use Rattle.sheettext.specs.Sheet.{sheetText}
 use Rattle.awardtheorems.specs.Awarded.{awarded}
 use Rattle.bookanswers.specs.BookAnswers.{bookOf}
 use Rattle.tender.specs.FromText.{clearText, sheetWritten}
 use Rattle.awardnumbers.specs.Numbers.{awardVerdict}
-use Rattle.endtoend.specs.Outcome.{CoveredText, UncoveredText, Outcome, too-long, not-of-shape, broken, not-covered, output-short, sheet}
+use Rattle.endtoend.specs.Outcome.{CoveredText, UncoveredText, Outcome, too-long, not-of-shape, broken, not-covered, output-short, award-written}
 use Rattle.endtoend.proofs.ClearedText.{accepted-text, was-read, its-award}
-use Rattle.endtoend.proofs.Whole.{no-sheet, whole}
+use Rattle.endtoend.proofs.Whole.{nothing-written, whole}
 use Rattle.endtoend.proofs.Given.{same-book, covered, uncovered}
 
 module _ (t : List ℕ) where
   -- refusal 9 is the outcome of a book without a division, and of nothing else
   its-nine : clearText t .verdict ≡ Refused NotCovered 0 → (b : BookEntries) × UncoveredText t b
   unfolding every
-  its-nine e = go (whole t [])
+  its-nine e = go (whole sheetText t [])
     where
       nine : sheetWritten t 0 .verdict ≡ Refused NotCovered 0
-      nine = ap (λ (w : TextWritten). w .verdict) (no-sheet t [] NotCovered 0 e .0)
+      nine = ap (λ (w : TextWritten). w .verdict) (nothing-written sheetText t [] NotCovered 0 e .0)
 
       told : {w : TextWritten} → sheetWritten t 0 ≡ w → w .verdict ≡ Refused NotCovered 0
       told f = sym (ap (λ (w : TextWritten). w .verdict) f) ∙ nine
 
-      go : Outcome t [] → (b : BookEntries) × UncoveredText t b
+      go : Outcome sheetText t [] → (b : BookEntries) × UncoveredText t b
       go (too-long h f) = absurd (omega (arith, ap numberOf (told (f .0))))
       go (not-of-shape place h f) = absurd (omega (arith, ap numberOf (told (f .0))))
       go (broken b says rule line g f) = absurd (never-by NotCovered refl (bookEntries (bookRecord b)) 0 (g ∙ told (f .0)))
       go (not-covered b is no-division f) = (b, (is, no-division))
       go (output-short b is a award h f) = absurd (omega (arith, ap numberOf (told (f .0))))
-      go (sheet b is a award h f) = absurd (omega (arith, ap numberOf (told (f .0))))
+      go (award-written b is a award h f) = absurd (omega (arith, ap numberOf (told (f .0))))
 
   pub nine-iff : (clearText t .verdict ≡ Refused NotCovered 0) ↔ ((b : BookEntries) × UncoveredText t b)
   nine-iff = (its-nine, λ (b, (is, no-division)). uncovered t b is no-division)

@@ -3,8 +3,7 @@
 use Prim.Native.Nat.{ℕ, suc, _+_, _*_, _^_, _≤_, _<_}
 use native.Mathlib.Omega.{arith}
 use mathlib.Core.List.{List}
-use mathlib.Core.Path.{_≡_, refl, sym, ap, _∙_, subst}
-use borrow.Author.Tests.{le-leb}
+use mathlib.Core.Path.{_≡_, sym, subst}
 use lib.IntN.{ℤ, pos, negsuc, natAbs}
 use lib.ListN.{length}
 use lib.Seq.{getD-take}
@@ -12,37 +11,29 @@ use Rattle.lists.specs.All.{All}
 use Rattle.lists.proofs.All.{all-indexed}
 use Rattle.lists.proofs.Joined.{joined-short}
 use Rattle.lists.proofs.Slices.{take-most}
-use Rattle.forms.specs.Digits.{digits, signedDigits}
+use Rattle.forms.specs.Digits.{signedDigits}
 use Rattle.forms.proofs.Digits.{length-below}
-use Rattle.refusal.specs.declared.Rule.{Rule}
 use Rattle.refusal.specs.declared.Rule.the-variants.{OutputLength}
-use Rattle.refusal.specs.declared.Verdict.{Verdict}
 use Rattle.refusal.specs.declared.Verdict.the-variants.{Accepted, Refused}
-use Rattle.refusal.proofs.Numbers.{two-digits}
-use Rattle.refusal.proofs.Refusals.{never-other}
-use Rattle.refusal.specs.Number.{ruleNumber}
 use Rattle.book.specs.declared.Book.{Book}
-use Rattle.book.specs.Entries.{bookEntries}
-use Rattle.book.proofs.Accepted.{book-accepted as accepted-counts}
-use Rattle.output.specs.Writing.{writingVerdict, writtenOf}
-use Rattle.bookreader.specs.Reading.{readOf}
-use Rattle.roundtrip.proofs.Back.{book-accepted}
+use Rattle.book.specs.Entries.{BookEntries, bookEntries}
+use Rattle.book.proofs.InRange.{mostBlanks}
+use Rattle.book.proofs.Accepted.{book-accepted}
 use Rattle.award.specs.declared.Total.{Total}
 use Rattle.award.specs.declared.Total.the-variants.{Amount, Nothing}
 use Rattle.award.specs.declared.Row.{Row}
 use Rattle.award.specs.declared.Award.{Award}
 use Rattle.award.specs.Award.{noRow}
-use Rattle.sheettext.specs.Sheet.{totalText, rowText, sheetText, refusalText}
-use Rattle.sheettext.proofs.Sizes.{row-size, sheet-size, refusal-size}
-use Rattle.clearing.specs.declared.Clearing.{Clearing}
+use Rattle.sheettext.specs.Sheet.{totalText, rowText, sheetText}
+use Rattle.sheettext.proofs.Sizes.{row-size, sheet-size}
 use Rattle.clearing.specs.Clearing.{clearOf}
 use Rattle.awardtheorems.specs.Awarded.{rowsOf, rowAt}
+use Rattle.awardtheorems.proofs.Answers.{cleared}
 use Rattle.awardtheorems.proofs.Costs.{NotNegative, UpTo, mostTotal}
-use Rattle.bookanswers.specs.BookAnswers.{bookOf}
-use Rattle.tender.specs.FromText.{clearText, sheetWritten, clearPrints}
-use Rattle.endtoend.proofs.Places.{BeforeOutput, before-output}
-use Rattle.endtoend.proofs.ClearedText.{the-award, cleared-book, was-read, record-cleared, eight-bids}
 use Rattle.awardtheorems.proofs.Amounts.{TotalUpTo, RowUpTo, demand-up-to, total-from-zero, rows-up-to}
+use Rattle.tender.specs.FromText.{clearText, sheetWritten, clearPrints}
+use Rattle.endtoend.proofs.ClearedText.{the-award, of-records}
+use Rattle.endtoend.proofs.LongEnough.{printed-fits, never-10}
 
 -- The parts of a sheet.
 
@@ -66,6 +57,12 @@ row-short row h =
     let without = total-short (row .without) (h .without) in
     omega (arith, row-size row)
 
+-- what holds of each bid's row holds of all of them
+pub every-row : (P : Row → Type 0) (a : Award) → ((i : ℕ) → i < a .count → P (rowAt a i)) → All P (rowsOf a)
+every-row P a each = all-indexed P noRow (rowsOf a) (λ i h.
+    let within : i < a .count = omega (arith, h, take-most (a .count) (a .rows) .0) in
+    subst P (sym (getD-take (a .count) (a .rows) i noRow within)) (each i within))
+
 -- the sheet of an award: 31 bytes, and 65 for each bid
 module _ (book : Book) (held : length (book .bids) ≡ 8) (accepted : clearOf (bookEntries book) .verdict ≡ Accepted) where
   abbrev a : Award
@@ -74,74 +71,49 @@ module _ (book : Book) (held : length (book .bids) ≡ 8) (accepted : clearOf (b
   count-is : a .count ≡ book .count
   count-is = the-award book held accepted .count
 
-  rows-short : All (λ (row : Row). length (rowText row) ≤ 65) (rowsOf a)
-  rows-short = all-indexed (λ (row : Row). length (rowText row) ≤ 65) noRow (rowsOf a) (λ i h.
-      let within : i < a .count = omega (arith, h, take-most (a .count) (a .rows) .0) in
-      subst (λ (row : Row). length (rowText row) ≤ 65) (sym (getD-take (a .count) (a .rows) i noRow within))
-      (row-short (rowAt a i) (rows-up-to book held accepted i (omega (arith, count-is)))))
+  few : a .count ≤ 8
+  few = omega (arith, count-is, book-accepted (bookEntries book) (cleared (bookEntries book) accepted .accepted) .count-high)
+
+  each-up-to : (i : ℕ) → i < a .count → RowUpTo (rowAt a i)
+  each-up-to i h = rows-up-to book held accepted i (omega (arith, count-is))
 
   pub sheet-bound : length (sheetText a) ≤ 31 + 65 * book .count
   sheet-bound =
       let demand = length-below 6 (a .demand .0) (omega (arith, demand-up-to book held accepted)) in
       let t = total-from-zero book held accepted in
       let total = amount-short 13 (a .total .0) (t .not-negative) (omega (arith, t .size)) in
-      let rows = joined-short rowText 65 (rowsOf a) rows-short in
-      let few = take-most (a .count) (a .rows) .0 in
+      let short = every-row (λ (row : Row). length (rowText row) ≤ 65) a (λ i h. row-short (rowAt a i) (each-up-to i h)) in
+      let rows = joined-short rowText 65 (rowsOf a) short in
+      let counted = take-most (a .count) (a .rows) .0 in
       omega (arith, sheet-size a, count-is)
 
+  short-sheet : length (sheetText a) ≤ 551
+  short-sheet = omega (arith, sheet-bound, count-is, few)
+
 module _ (t : List ℕ) where
-  -- What is printed for a text, by whether it is cleared.
-
+  -- Of a text that is cleared: no amount of its award is negative, and its numbers have these bounds.
   module _ (accepted : clearText t .verdict ≡ Accepted) where
-    is : clearText t ≡ clearOf (bookOf t)
-    is = cleared-book t (was-read t accepted)
+    pub text-demand-up-to : clearText t .award .demand .0 ≤ mostBlanks
+    text-demand-up-to = of-records t accepted (λ (b : BookEntries) (a : Award). a .demand .0 ≤ mostBlanks) demand-up-to
 
-    -- no amount of the award is negative, and its numbers have these bounds
     pub text-total-up-to : UpTo mostTotal (clearText t .award .total .0)
-    text-total-up-to =
-        subst (λ (c : Clearing). UpTo mostTotal (c .award .total .0)) (sym is)
-        (total-from-zero (readOf t .book) (eight-bids t accepted) (record-cleared t accepted))
+    text-total-up-to = of-records t accepted (λ (b : BookEntries) (a : Award). UpTo mostTotal (a .total .0)) total-from-zero
+
+    pub text-count-up-to : clearText t .award .count ≤ 8
+    text-count-up-to = of-records t accepted (λ (b : BookEntries) (a : Award). a .count ≤ 8) few
 
     pub text-row-up-to : (i : ℕ) → i < clearText t .award .count → RowUpTo (rowAt (clearText t .award) i)
-    text-row-up-to i h =
-        let held = eight-bids t accepted in
-        let e = record-cleared t accepted in
-        let counted = ap (λ (c : Clearing). c .award .count) is ∙ count-is (readOf t .book) held e in
-        subst (λ (c : Clearing). RowUpTo (rowAt (c .award) i)) (sym is) (rows-up-to (readOf t .book) held e i (omega arith))
+    text-row-up-to = of-records t accepted (λ (b : BookEntries) (a : Award). (i : ℕ) → i < a .count → RowUpTo (rowAt a i)) each-up-to
 
     pub sheet-fits : length (sheetText (clearText t .award)) ≤ 551
-    sheet-fits =
-        let few = accepted-counts (bookOf t) (book-accepted t (was-read t accepted)) .count-high in
-        let bound = sheet-bound (readOf t .book) (eight-bids t accepted) (record-cleared t accepted) in
-        subst (λ (c : Clearing). length (sheetText (c .award)) ≤ 551) (sym is) (omega arith)
-
-  -- the line of a refusal has at most 18 bytes
-  refusal-short : (rule : Rule) (place : ℕ) → place ≤ 4096 → length (refusalText (Refused rule place)) ≤ 18
-  refusal-short rule place h =
-      let number = length-below 1 (ruleNumber rule) (omega (arith, two-digits rule .1)) in
-      let digits = length-below 3 place (omega arith) in
-      omega (arith, refusal-size (Refused rule place))
+    sheet-fits = of-records t accepted (λ (b : BookEntries) (a : Award). length (sheetText a) ≤ 551) short-sheet
 
   -- 600 bytes hold whatever is printed, so that rule 10 never arises with them
-  pub prints-fit : length (clearPrints t) ≤ 600
-  unfolding clearPrints
-  prints-fit = go (clearText t .verdict) refl
-    where
-      go : (v : Verdict) → clearText t .verdict ≡ v → length (clearPrints t) ≤ 600
-      go Accepted e = rw e (omega (arith, sheet-fits e))
-      go (Refused rule place) e =
-          let told : BeforeOutput (Refused rule place) = subst BeforeOutput e (before-output t) in
-          rw e (omega (arith, refusal-short rule place (told .1)))
+  in-600 : clearText t .verdict ≡ Accepted → length (sheetText (clearText t .award)) ≤ 600
+  in-600 e = omega (arith, sheet-fits e)
 
-  same-verdict : (out : List ℕ) → 600 ≤ length out → sheetWritten t (length out) .verdict ≡ clearText t .verdict
-  unfolding sheetWritten writtenOf writingVerdict
-  same-verdict out enough = go (clearText t .verdict) refl
-    where
-      go : (v : Verdict) → clearText t .verdict ≡ v → sheetWritten t (length out) .verdict ≡ clearText t .verdict
-      go Accepted e = rw (e, le-leb (length (sheetText (clearText t .award))) (length out) (omega (arith, sheet-fits e)))
-      go (Refused rule place) e = rw e
+  pub prints-fit : length (clearPrints t) ≤ 600
+  prints-fit = printed-fits sheetText 600 t in-600 (omega arith)
 
   pub never-short : (out : List ℕ) → 600 ≤ length out → (place : ℕ) → sheetWritten t (length out) .verdict ≡ Refused OutputLength place → ⊥
-  never-short out enough place e =
-      let told : BeforeOutput (Refused OutputLength place) = subst BeforeOutput (sym (same-verdict out enough) ∙ e) (before-output t) in
-      never-other OutputLength (told .0)
+  never-short = never-10 sheetText 600 t in-600

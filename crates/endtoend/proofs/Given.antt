@@ -1,7 +1,7 @@
 -- What a text gets, given what it is: the outcomes the other way round. Assumes nothing.
 use Prim.Native.Nat.{ℕ, _≤_, _<_}
 use mathlib.Core.List.{List}
-use mathlib.Core.Path.{_≡_, refl, sym, ap, _∙_, subst}
+use mathlib.Core.Path.{_≡_, sym, ap, _∙_, subst}
 use lib.ListN.{length}
 use Rattle.refusal.specs.declared.Rule.{Rule}
 use Rattle.refusal.specs.declared.Rule.the-variants.{TextLength, Shape, NotCovered, OutputLength}
@@ -10,43 +10,40 @@ use Rattle.book.specs.Entries.{BookEntries, bookEntries}
 use Rattle.book.specs.Rules.{bookVerdict}
 use Rattle.booktext.specs.Record.{bookRecord}
 use Rattle.booktext.proofs.Records.{entries-of-record}
-use Rattle.printer.specs.Written.{written}
-use Rattle.output.specs.Writing.{notWritten, allWritten}
-use Rattle.output.proofs.Answers.{too-short, in-full}
 use Rattle.bookreader.specs.declared.BookRead.{BookRead}
 use Rattle.bookreader.specs.Reading.{bookAnswer, readOf}
 use Rattle.bookreader.proofs.Answers.{read-text, read-long, accepted-answer}
 use Rattle.roundtrip.specs.NotOfShape.{NotOfShape}
 use Rattle.roundtrip.proofs.Reading.{place-refused}
 use Rattle.award.specs.declared.Award.{Award}
-use Rattle.sheettext.specs.Sheet.{sheetText}
 use Rattle.clearing.specs.declared.Clearing.{Clearing}
 use Rattle.clearing.specs.Clearing.{clearOf}
 use Rattle.awardtheorems.specs.OfBook.{DivisionOf}
 use Rattle.awardtheorems.specs.Awarded.{awarded}
 use Rattle.awardtheorems.proofs.Cleared.{covered-iff, not-covered-iff}
 use Rattle.bookanswers.specs.BookAnswers.{bookOf}
-use Rattle.tender.specs.FromText.{clearText, sheetWritten, sheetOutput}
+use Rattle.tender.specs.FromText.{clearText}
 use Rattle.endtoend.specs.TheAward.{TheAward}
-use Rattle.endtoend.specs.Outcome.{textVerdict, TextSays, AcceptedText, NoSheet, SheetOf}
+use Rattle.endtoend.specs.Outcome.{textVerdict, TextSays, AcceptedText, NothingWritten, WholeText}
+use Rattle.endtoend.specs.Shown.{ShowsRowsOnly}
 use Rattle.endtoend.proofs.ClearedText.{cleared-book, its-award}
-use Rattle.endtoend.proofs.Whole.{no-sheet, refused-text}
-use Rattle.endtoend.proofs.OneSheet.{one-sheet}
+use Rattle.endtoend.proofs.Whole.{nothing-written, refused-text, refused-10, text-written}
+use Rattle.endtoend.proofs.OneAward.{one-text}
 
 verdict-of : {r s : BookRead} → r ≡ s → r .verdict ≡ s .verdict
 verdict-of e = ap (λ (r : BookRead). r .verdict) e
 
 -- refused before it is cleared
-module _ (t out : List ℕ) where
-  pub gets-1 : 4096 < length t → NoSheet t out TextLength 4096
-  gets-1 h = refused-text t out TextLength 4096 (verdict-of (sym (read-long t h)))
+module _ (text : Award → List ℕ) (t out : List ℕ) where
+  pub gets-1 : 4096 < length t → NothingWritten text t out TextLength 4096
+  gets-1 h = refused-text text t out TextLength 4096 (verdict-of (sym (read-long t h)))
 
-  pub gets-2 : (place : ℕ) → NotOfShape t place → NoSheet t out Shape place
-  gets-2 place h = refused-text t out Shape place (verdict-of (place-refused t place h))
+  pub gets-2 : (place : ℕ) → NotOfShape t place → NothingWritten text t out Shape place
+  gets-2 place h = refused-text text t out Shape place (verdict-of (place-refused t place h))
 
-  pub gets-3-to-8 : (b : BookEntries) → TextSays t b → (rule : Rule) (line : ℕ) → textVerdict b ≡ Refused rule line → NoSheet t out rule line
+  pub gets-3-to-8 : (b : BookEntries) → TextSays t b → (rule : Rule) (line : ℕ) → textVerdict b ≡ Refused rule line → NothingWritten text t out rule line
   unfolding bookAnswer
-  gets-3-to-8 b says rule line e = refused-text t out rule line (verdict-of (sym (read-text t (says .short) b (says .text))) ∙ e)
+  gets-3-to-8 b says rule line e = refused-text text t out rule line (verdict-of (sym (read-text t (says .short) b (says .text))) ∙ e)
 
 -- accepted
 module _ (t : List ℕ) (b : BookEntries) (is : AcceptedText t b) where
@@ -60,46 +57,36 @@ module _ (t : List ℕ) (b : BookEntries) (is : AcceptedText t b) where
   pub book-passes : bookVerdict b ≡ Accepted
   book-passes = ap bookVerdict (sym (entries-of-record b (is .says .text .well-formed) (is .accepted))) ∙ is .accepted
 
-  cleared-as-book : clearText t ≡ clearOf b
-  cleared-as-book = cleared-book t (verdict-of read-as-book) ∙ ap clearOf same-book
-
-  told : {c : Clearing} → clearOf b ≡ c → clearText t .verdict ≡ c .verdict
-  told e = ap (λ (x : Clearing). x .verdict) (cleared-as-book ∙ e)
+  cleared-as-book : clearText t .verdict ≡ clearOf b .verdict
+  cleared-as-book = ap (λ (c : Clearing). c .verdict) (cleared-book t (verdict-of read-as-book) ∙ ap clearOf same-book)
 
   pub uncovered : ((rs : List ℕ) → DivisionOf b rs → ⊥) → clearText t .verdict ≡ Refused NotCovered 0
-  uncovered no-division = ap (λ (c : Clearing). c .verdict) cleared-as-book ∙ not-covered-iff b book-passes .1 no-division
-
-  pub gets-9 : ((rs : List ℕ) → DivisionOf b rs → ⊥) → (out : List ℕ) → NoSheet t out NotCovered 0
-  gets-9 no-division out = no-sheet t out NotCovered 0 (uncovered no-division)
+  uncovered no-division = cleared-as-book ∙ not-covered-iff b book-passes .1 no-division
 
   pub covered : (rs : List ℕ) → DivisionOf b rs → clearText t .verdict ≡ Accepted
-  covered rs d = ap (λ (c : Clearing). c .verdict) cleared-as-book ∙ covered-iff b book-passes .1 (rs, d)
+  covered rs d = cleared-as-book ∙ covered-iff b book-passes .1 (rs, d)
 
   -- where there is a division there is an award
+  found : (rs : List ℕ) → DivisionOf b rs → TheAward b (clearText t .award)
+  found rs d = subst (λ (x : BookEntries). TheAward x (clearText t .award)) same-book (its-award t (covered rs d))
+
   pub has-award : (rs : List ℕ) → DivisionOf b rs → (a : Award) × TheAward b a
-  has-award rs d = (clearText t .award, subst (λ (x : BookEntries). TheAward x (clearText t .award)) same-book (its-award t (covered rs d)))
+  has-award rs d = (clearText t .award, found rs d)
 
-  module _ (a : Award) (award : TheAward b a) (out : List ℕ) where
+-- accepted, and lent an output
+module _ (text : Award → List ℕ) (t out : List ℕ) (b : BookEntries) (is : AcceptedText t b) where
+  pub gets-9 : ((rs : List ℕ) → DivisionOf b rs → ⊥) → NothingWritten text t out NotCovered 0
+  gets-9 no-division = nothing-written text t out NotCovered 0 (uncovered t b is no-division)
+
+  module _ (shows : ShowsRowsOnly text) (a : Award) (award : TheAward b a) where
     accepted : clearText t .verdict ≡ Accepted
-    accepted = covered (awarded a .quantities) (award .best .division)
+    accepted = covered t b is (awarded a .quantities) (award .best .division)
 
-    same-sheet : sheetText (clearText t .award) ≡ sheetText a
-    same-sheet = one-sheet b (clearText t .award) a (subst (λ (x : BookEntries). TheAward x (clearText t .award)) same-book (its-award t accepted)) award
+    same : text a ≡ text (clearText t .award)
+    same = one-text b a (clearText t .award) award (found t b is (awarded a .quantities) (award .best .division)) text shows
 
-    pub gets-10 : length out < length (sheetText a) → NoSheet t out OutputLength (length (sheetText a))
-    unfolding sheetWritten sheetOutput
-    gets-10 h =
-        let size = ap length (sym same-sheet) in
-        let (answer, exit) =
-        too-short (clearText t .verdict) (sheetText (clearText t .award)) out accepted (length (sheetText a)) size
-        (notWritten (Refused OutputLength (length (sheetText a)))) refl h in
-        (sym answer, sym exit)
+    pub gets-10 : length out < length (text a) → NothingWritten text t out OutputLength (length (text a))
+    gets-10 = refused-10 text t out accepted a same
 
-    pub gets-sheet : length (sheetText a) ≤ length out → SheetOf t out a
-    unfolding sheetWritten sheetOutput
-    gets-sheet h =
-        let size = ap length (sym same-sheet) in
-        let (answer, exit) =
-        in-full (clearText t .verdict) (sheetText (clearText t .award)) out accepted (length (sheetText a)) size (allWritten (length (sheetText a))) refl h
-        (written out 0 (sheetText a)) (ap (written out 0) (sym same-sheet)) in
-        (sym answer, sym exit)
+    pub gets-text : length (text a) ≤ length out → WholeText text t out a
+    gets-text = text-written text t out accepted a same

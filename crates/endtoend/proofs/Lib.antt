@@ -1,8 +1,9 @@
 pub mod ClearedText
 pub mod Whole
-pub mod OneSheet
+pub mod OneAward
 pub mod Given
 pub mod Places
+pub mod LongEnough
 pub mod Fits
 pub mod Prints
 pub mod Exactly

@@ -1,19 +1,20 @@
--- What the program `clear` prints, in the words of demand 3. Assumes nothing.
+-- What a program prints of an award, in the words of demand 3. Assumes nothing.
 use mathlib.Core.List.{List}
 use mathlib.Core.Path.{_≡_, refl}
 use Prim.Native.Nat.{ℕ}
 use Rattle.refusal.specs.declared.Verdict.{Verdict}
 use Rattle.refusal.specs.declared.Verdict.the-variants.{Accepted, Refused}
+use Rattle.award.specs.declared.Award.{Award}
 use Rattle.bookanswers.specs.BookAnswers.{bookOf}
-use Rattle.tender.specs.FromText.{clearText, clearPrints}
-use Rattle.endtoend.specs.Outcome.{PrintOutcome, its-sheet, its-refusal}
+use Rattle.tender.specs.FromText.{clearText, printedAs}
+use Rattle.endtoend.specs.Outcome.{PrintOutcome, its-text, its-refusal}
 use Rattle.endtoend.proofs.ClearedText.{accepted-text, was-read, its-award}
-use Rattle.endtoend.proofs.Whole.{no-sheet}
+use Rattle.endtoend.proofs.Whole.{nothing-written}
 
-pub prints : (t : List ℕ) → PrintOutcome t
-unfolding clearPrints
-prints t = go (clearText t .verdict) refl
+pub prints : (text : Award → List ℕ) (t : List ℕ) → PrintOutcome text t
+unfolding printedAs
+prints text t = go (clearText t .verdict) refl
   where
-    go : (v : Verdict) → clearText t .verdict ≡ v → PrintOutcome t
-    go Accepted e = its-sheet (bookOf t) (accepted-text t (was-read t e)) (clearText t .award) (its-award t e) (rw e)
-    go (Refused rule place) e = its-refusal rule place (λ out. no-sheet t out rule place e) (rw e)
+    go : (v : Verdict) → clearText t .verdict ≡ v → PrintOutcome text t
+    go Accepted e = its-text (bookOf t) (accepted-text t (was-read t e)) (clearText t .award) (its-award t e) (rw e)
+    go (Refused rule place) e = its-refusal rule place (λ out. nothing-written text t out rule place e) (rw e)

@@ -1,2 +1,3 @@
 pub mod TheAward
 pub mod Outcome
+pub mod Shown

@@ -1,5 +1,5 @@
--- What a text gets, lent an output with the bytes `out`: one of six outcomes, in the order of the refusals. Each says what holds of the
--- text, and then the answer and the bytes of the output.
+-- What a text t gets, lent an output with the bytes `out`, where `text` is any way to write an award as a text (a sheet, a page): one of six
+-- outcomes, in the order of the refusals. Each says what holds of t, and then the answer and the bytes of the output.
 use Prim.Native.Nat.{ℕ, _≤_, _<_}
 use mathlib.Core.List.{List}
 use mathlib.Core.Path.{_≡_}
@@ -17,9 +17,9 @@ use Rattle.booktext.specs.Record.{bookRecord}
 use Rattle.printer.specs.Written.{written}
 use Rattle.roundtrip.specs.NotOfShape.{NotOfShape}
 use Rattle.award.specs.declared.Award.{Award}
-use Rattle.sheettext.specs.Sheet.{sheetText, refusalText}
+use Rattle.sheettext.specs.Sheet.{refusalText}
 use Rattle.awardtheorems.specs.OfBook.{DivisionOf}
-use Rattle.tender.specs.FromText.{sheetWritten, sheetOutput, clearPrints}
+use Rattle.tender.specs.FromText.{writtenAs, outputAs, printedAs}
 use Rattle.endtoend.specs.TheAward.{TheAward}
 
 -- the rules on the book that a text says: those on its record, which holds the first eight bids and six segments beside the text's counts
@@ -43,32 +43,32 @@ CoveredText t b = AcceptedText t b × ((rs : List ℕ) × DivisionOf b rs)
 abbrev pub UncoveredText : List ℕ → BookEntries → Type 0
 UncoveredText t b = AcceptedText t b × ((rs : List ℕ) → DivisionOf b rs → ⊥)
 
-module _ (t out : List ℕ) where
+module _ (text : Award → List ℕ) (t out : List ℕ) where
   -- refused: no byte is written, and the output is unchanged
-  abbrev pub NoSheet : Rule → ℕ → Type 0
-  NoSheet rule place = (sheetWritten t (length out) ≡ record { verdict = Refused rule place; bytes = 0 }) × (sheetOutput t out ≡ out)
+  abbrev pub NothingWritten : Rule → ℕ → Type 0
+  NothingWritten rule place = (writtenAs text t (length out) ≡ record { verdict = Refused rule place; bytes = 0 }) × (outputAs text t out ≡ out)
 
-  -- the sheet of the award, byte for byte, and what was past it
-  abbrev pub SheetOf : Award → Type 0
-  SheetOf a =
-      (sheetWritten t (length out) ≡ record { verdict = Accepted; bytes = length (sheetText a) }) × (sheetOutput t out ≡ written out 0 (sheetText a))
+  -- the text of the award, byte for byte, and what was past it
+  abbrev pub WholeText : Award → Type 0
+  WholeText a = (writtenAs text t (length out) ≡ record { verdict = Accepted; bytes = length (text a) }) × (outputAs text t out ≡ written out 0 (text a))
 
   pub data Outcome : Type 0 where
     -- 1: it is longer than 4,096 bytes
-    too-long : 4096 < length t → NoSheet TextLength 4096 → Outcome
+    too-long : 4096 < length t → NothingWritten TextLength 4096 → Outcome
     -- 2: no book has this text
-    not-of-shape : (place : ℕ) → NotOfShape t place → NoSheet Shape place → Outcome
+    not-of-shape : (place : ℕ) → NotOfShape t place → NothingWritten Shape place → Outcome
     -- 3 to 8: its book breaks a rule
-    broken : (b : BookEntries) → TextSays t b → (rule : Rule) (line : ℕ) → textVerdict b ≡ Refused rule line → NoSheet rule line → Outcome
+    broken : (b : BookEntries) → TextSays t b → (rule : Rule) (line : ℕ) → textVerdict b ≡ Refused rule line → NothingWritten rule line → Outcome
     -- 9: its book has no division
-    not-covered : (b : BookEntries) → AcceptedText t b → ((rs : List ℕ) → DivisionOf b rs → ⊥) → NoSheet NotCovered 0 → Outcome
-    -- 10: the award's sheet is longer than the output
-    output-short : (b : BookEntries) → AcceptedText t b → (a : Award) → TheAward b a → length out < length (sheetText a)
-        → NoSheet OutputLength (length (sheetText a)) → Outcome
-    -- the award's sheet
-    sheet : (b : BookEntries) → AcceptedText t b → (a : Award) → TheAward b a → length (sheetText a) ≤ length out → SheetOf a → Outcome
+    not-covered : (b : BookEntries) → AcceptedText t b → ((rs : List ℕ) → DivisionOf b rs → ⊥) → NothingWritten NotCovered 0 → Outcome
+    -- 10: the award's text is longer than the output
+    output-short : (b : BookEntries) → AcceptedText t b → (a : Award) → TheAward b a → length out < length (text a)
+        → NothingWritten OutputLength (length (text a)) → Outcome
+    -- the award's text
+    award-written : (b : BookEntries) → AcceptedText t b → (a : Award) → TheAward b a → length (text a) ≤ length out → WholeText a → Outcome
 
--- What the program `clear` prints for a text: the sheet of the award, or the line of the refusal that the text gets in every output.
-pub data PrintOutcome (t : List ℕ) : Type 0 where
-  its-sheet : (b : BookEntries) → AcceptedText t b → (a : Award) → TheAward b a → clearPrints t ≡ sheetText a → PrintOutcome t
-  its-refusal : (rule : Rule) (place : ℕ) → ((out : List ℕ) → NoSheet t out rule place) → clearPrints t ≡ refusalText (Refused rule place) → PrintOutcome t
+-- What a program prints for t: the text of the award, or the line of the refusal that t gets in every output.
+pub data PrintOutcome (text : Award → List ℕ) (t : List ℕ) : Type 0 where
+  its-text : (b : BookEntries) → AcceptedText t b → (a : Award) → TheAward b a → printedAs text t ≡ text a → PrintOutcome text t
+  its-refusal : (rule : Rule) (place : ℕ) → ((out : List ℕ) → NothingWritten text t out rule place) → printedAs text t ≡ refusalText (Refused rule place)
+      → PrintOutcome text t

@@ -1,1 +1,1 @@
-// Demand 3, from the bytes of a text to the bytes of its award sheet (specs/ and proofs/); no code.
+// Demand 3, from the bytes of a text to the bytes of its award, as a sheet or as a page (specs/ and proofs/); no code.

@@ -13,7 +13,7 @@ use Rattle.booktext.specs.Record.{bookRecord}
 use Rattle.bookreader.specs.declared.BookRead.{BookRead}
 use Rattle.bookreader.specs.Reading.{bookAnswer, readOf}
 use Rattle.bookreader.proofs.Answers.{read-text, accepted-answer}
-use Rattle.tender.specs.FromText.{clearText, clearPrints}
+use Rattle.tender.specs.FromText.{clearText, clearPrints, printedAs}
 use Rattle.clearing.specs.Clearing.{clearOf}
 use Rattle.clearing.proofs.Answers.{rules-first}
 use Rattle.workedcases.specs.Table.{Case, table}
@@ -35,7 +35,7 @@ module _ (t : List ℕ) (b : BookEntries) (read : readOf t ≡ bookAnswer b) (fi
           rw told (sym (rules-first b rule line (ap bookVerdict (sym fits) ∙ e)))
 
 case-proved : (c : Case) (b : BookEntries) → Passed c b → clearPrints (c .text) ≡ c .printed
-unfolding clearPrints
+unfolding printedAs
 case-proved c b k =
     let read = sym (read-text (c .text) (k .short) b (k .text)) in
     ap printedFor (cleared-as (c .text) b read (k .fits) ∙ sym (model-is b)) ∙ k .shown

@@ -5,7 +5,7 @@ use mathlib.Core.Path.{sym, ap, _∙_}
 use borrow.Author.Needs.{needs}
 use Rattle.sheettext.specs.Sheet.{sheetText, refusalText}
 use Rattle.clearing.specs.declared.Clearing.{Clearing}
-use Rattle.tender.specs.FromText.{clearPrints}
+use Rattle.tender.specs.FromText.{printedAs}
 use Rattle.bookanswers.proofs.Answers.{if-refused, if-accepted, same-text}
 use Rattle.printout.proofs.write.Statement.{statement}
 use Rattle.printout.proofs.write.Tie as tie
@@ -17,7 +17,7 @@ abbrev refused : Clearing → List ℕ
 refused cleared = refusalText (cleared .verdict)
 
 returns : tie.Need-returns
-unfolding clearPrints
+unfolding printedAs
 returns c =
     let written = c .before .before in
     let told = written .before .before .before in
@@ -26,7 +26,7 @@ returns c =
     same-text (ap refusalText (sym refusal) ∙ if-refused (λ (r : Clearing). r .verdict) is refusal accepted refused) _ (written .write-refusal .ensures)
 
 returns-2 : tie.Need-returns-2
-unfolding clearPrints
+unfolding printedAs
 returns-2 c =
     let told = c .before .before .before .before .before in
     let is = told .before .before .clear .ensures in

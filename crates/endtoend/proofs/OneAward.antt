@@ -1,6 +1,8 @@
--- The words of demand 3 fix every byte of the sheet: two records of a book's award have the same sheet. Assumes nothing.
+-- The words of demand 3 fix every byte of the sheet and of the page: two records of a book's award have the same text, if that shows
+-- no more of them than demand, total and the rows of the bids. Assumes nothing.
 use Prim.Native.Nat.{ℕ, _<_}
 use native.Mathlib.Omega.{arith}
+use mathlib.Core.List.{List}
 use mathlib.Core.Path.{_≡_, refl, sym, ap, ap₂, _∙_}
 use lib.ListN.{length, getD, length-map}
 use lib.Seq.{getD-take, ext-getD}
@@ -15,10 +17,12 @@ use Rattle.award.specs.declared.Row.{Row}
 use Rattle.award.specs.declared.Award.{Award}
 use Rattle.award.specs.Award.{noRow, rowOf}
 use Rattle.sheettext.specs.Sheet.{sheetText}
+use Rattle.pagetext.specs.Page.{pageFirst, pageText}
 use Rattle.without.specs.Without.{bookWithout}
 use Rattle.awardtheorems.specs.OfBook.{IsAwardOf}
 use Rattle.awardtheorems.specs.Awarded.{rowsOf, rowAt, awarded}
 use Rattle.endtoend.specs.TheAward.{TotalOf, bidAt, TheAward}
+use Rattle.endtoend.specs.Shown.{ShowsRowsOnly}
 
 one-award : (b : BookEntries) (p q : Priced) → IsAwardOf b p → IsAwardOf b q → p ≡ q
 one-award b p q x y =
@@ -57,9 +61,15 @@ module _ (b : BookEntries) (x y : Award) (this : TheAward b x) (that : TheAward 
       ∙ same-row i within
       ∙ sym (getD-take (y .count) (y .rows) i noRow (omega (arith, that .count))))
 
-  pub one-sheet : sheetText x ≡ sheetText y
-  unfolding sheetText
-  one-sheet =
-      let demand : x .demand .0 ≡ y .demand .0 = this .demand ∙ sym (that .demand) in
-      let total : x .total .0 ≡ y .total .0 = ap (λ (p : Priced). p .cost) same-awarded in
-      rw (demand, total, same-rows)
+  pub one-text : (text : Award → List ℕ) → ShowsRowsOnly text → text x ≡ text y
+  one-text text shows = shows x y (this .demand ∙ sym (that .demand)) (ap (λ (p : Priced). p .cost) same-awarded) same-rows
+
+-- neither the sheet nor the page shows more
+
+pub sheet-shows : ShowsRowsOnly sheetText
+unfolding sheetText
+sheet-shows x y demand total rows = rw (demand, total, rows)
+
+pub page-shows : ShowsRowsOnly pageText
+unfolding pageText pageFirst
+page-shows x y demand total rows = rw (demand, total, rows)
