@@ -15,3 +15,6 @@ pub mod Place
 pub mod Repeat
 pub mod Framed
 pub mod Spaced
+pub mod Column
+pub mod Money
+pub mod Bytes

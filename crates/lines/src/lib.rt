@@ -5,15 +5,17 @@ ghost use Prim.Native.Nat.{_+_, _^_, _≤_, _<_};
 ghost use Rattle.lists.specs.Joined.{joined};
 ghost use Rattle.printer.specs.Written.{Put};
 ghost use Rattle.lines.specs.Line.{partText};
+use columns::Shown;
 use money::Cents;
 use words::Word;
 
-// A part of a line: a word, or a word and right after it a number or a price.
+// A part of a line: a word, or a word and right after it a number or a price; or what is set to the right in so many columns.
 pub enum Part {
     Nothing,
     Fixed(Word),
     Number(Word, u64),
     Price(Word, Cents),
+    Column(u8, Shown),
 }
 
 // A part of a line from `at` on, where it fits. Answers the place after it all the same.
@@ -33,6 +35,7 @@ pub fn put_part(out: &mut [u8], at: usize, part: Part) -> usize
             let price = words::put(out, at, word);
             printer::put_cents(out, price, cents)
         }
+        Part::Column(width, shown) => columns::put(out, at, width, shown),
     }
 }
 

@@ -10,6 +10,7 @@ ghost use Rattle.printer.specs.Written.{Wrote, placed, Put, Placeable};
 mod cents;
 
 pub use cents::put_cents;
+pub use cents::put_money;
 
 // The bytes of w, from `at` on.
 fn write_word(out: &mut [u8], at: usize, w: &[u8]) -> usize

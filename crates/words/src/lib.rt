@@ -18,6 +18,8 @@ pub enum Word {
     CloseRow,
     Demand,
     Bid,
+    None,
+    EndLine,
 }
 
 // A word from `at` on, where it fits. Answers the place after it all the same. A byte string cannot be returned, so each is put where it is
@@ -41,5 +43,7 @@ pub fn put(out: &mut [u8], at: usize, word: Word) -> usize
         Word::CloseRow => printer::put_word(out, at, b"))\n"),
         Word::Demand => printer::put_word(out, at, b"(demand "),
         Word::Bid => printer::put_word(out, at, b"(bid "),
+        Word::None => printer::put_word(out, at, b"none"),
+        Word::EndLine => printer::put_word(out, at, b"\n"),
     }
 }

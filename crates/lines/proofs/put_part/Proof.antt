@@ -1,4 +1,4 @@
--- By cases of the part: nothing, a word, or a word and right after it a number or a price (`put-after`), as its text is.
+-- By cases of the part: nothing, a word, a word and right after it a number or a price (`put-after`), or a column, as its text is.
 use native.Mathlib.Omega.{arith}
 use borrow.Author.Needs.{needs}
 use Rattle.printer.proofs.Put.{put-none, put-placed, put-after}
@@ -33,6 +33,9 @@ price c =
       omega (arith, n .put-cents .ensures .1, w .put3 .ensures .1 .1),
     )
 
+column : tie.Need-returns-5
+column c = let p = c .before .before in rw (p .before .before .before .part4 .given .1) (p .put4 .ensures)
+
 pub put-part-spec : {M : Type 1} → statement M
 put-part-spec =
     tie.close
@@ -41,7 +44,9 @@ put-part-spec =
     (λ c. search needs) (λ c κs. search needs)
     (λ c. search needs) (λ c κs. search needs) (λ c κs. search needs)
     (λ c. search needs) (λ c κs. search needs) (λ c κs. search needs)
+    (λ c. search needs) (λ c κs. search needs)
     nothing
     (λ c. search needs) fixed
     (λ c. search needs) number
-    (λ c. search needs) price)
+    (λ c. search needs) price
+    (λ c. search needs) column)
