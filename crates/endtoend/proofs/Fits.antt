@@ -33,7 +33,7 @@ use Rattle.awardtheorems.proofs.Costs.{NotNegative, UpTo, mostTotal}
 use Rattle.awardtheorems.proofs.Amounts.{TotalUpTo, RowUpTo, demand-up-to, total-from-zero, rows-up-to}
 use Rattle.tender.specs.FromText.{clearText, sheetWritten, clearPrints}
 use Rattle.endtoend.proofs.ClearedText.{the-award, of-records}
-use Rattle.endtoend.proofs.LongEnough.{printed-fits, never-10}
+use Rattle.endtoend.proofs.LongEnough.{printed-fits, same-verdict, never-10}
 
 -- The parts of a sheet.
 
@@ -117,3 +117,6 @@ module _ (t : List ℕ) where
 
   pub never-short : (out : List ℕ) → 600 ≤ length out → (place : ℕ) → sheetWritten t (length out) .verdict ≡ Refused OutputLength place → ⊥
   never-short = never-10 sheetText 600 t in-600
+
+  pub sheet-verdict : (out : List ℕ) → 600 ≤ length out → sheetWritten t (length out) .verdict ≡ clearText t .verdict
+  sheet-verdict = same-verdict sheetText 600 t in-600

@@ -6,6 +6,7 @@ use Rattle.output.specs.declared.TextWritten.{TextWritten}
 use Rattle.output.specs.Writing.{writtenOf, outputAfter}
 use Rattle.award.specs.declared.Award.{Award}
 use Rattle.sheettext.specs.Sheet.{sheetText, refusalText}
+use Rattle.pagetext.specs.Page.{pageText}
 use Rattle.clearing.specs.declared.Clearing.{Clearing}
 use Rattle.clearing.specs.Clearing.{clearOf, refusedClearing}
 use Rattle.bookanswers.specs.BookAnswers.{answerOf}
@@ -25,7 +26,7 @@ outputAs text t out = outputAfter (clearText t .verdict) (text (clearText t .awa
 unfoldable pub printedAs : (Award → List ℕ) → List ℕ → List ℕ
 printedAs text t = whenAccepted (clearText t .verdict) (text (clearText t .award)) (refusalText (clearText t .verdict))
 
--- ---- the sheet, and what the program `clear` prints
+-- ---- the sheet and the page, and what the programs `clear` and `page` print
 
 abbrev pub sheetWritten : List ℕ → ℕ → TextWritten
 sheetWritten = writtenAs sheetText
@@ -33,5 +34,14 @@ sheetWritten = writtenAs sheetText
 abbrev pub sheetOutput : List ℕ → List ℕ → List ℕ
 sheetOutput = outputAs sheetText
 
+abbrev pub pageWritten : List ℕ → ℕ → TextWritten
+pageWritten = writtenAs pageText
+
+abbrev pub pageOutput : List ℕ → List ℕ → List ℕ
+pageOutput = outputAs pageText
+
 abbrev pub clearPrints : List ℕ → List ℕ
 clearPrints = printedAs sheetText
+
+abbrev pub pagePrints : List ℕ → List ℕ
+pagePrints = printedAs pageText

@@ -1,0 +1,63 @@
+-- The page of every cleared text: its lines, how long it is, and that its columns give the award again. Assumes nothing.
+use Prim.Native.Nat.{ℕ, _+_, _*_, _≤_}
+use native.Mathlib.Omega.{arith}
+use mathlib.Core.List.{List}
+use mathlib.Core.Path.{_≡_, sym, ap, _∙_, subst}
+use lib.ListN.{length, take}
+use Rattle.refusal.specs.declared.Rule.the-variants.{OutputLength}
+use Rattle.refusal.specs.declared.Verdict.the-variants.{Accepted, Refused}
+use Rattle.output.specs.Writing.{writtenOf}
+use Rattle.output.proofs.Answers.{accepted-before, text-written}
+use Rattle.award.specs.declared.Award.{Award}
+use Rattle.sheettext.specs.Sheet.{sheetText}
+use Rattle.pagetext.specs.Page.{pageText}
+use Rattle.pagetext.specs.ReadBack.{awardIn}
+use Rattle.pagetext.specs.Fits.{PageLines}
+use Rattle.pagetext.proofs.Page.{lines-length, page-lines as lines-that-fit}
+use Rattle.pagetext.proofs.ReadBack.{award-back}
+use Rattle.tender.specs.FromText.{clearText, writtenAs, outputAs, sheetWritten, pageWritten, pageOutput, pagePrints}
+use Rattle.endtoend.proofs.Fits.{text-count-up-to, sheet-verdict}
+use Rattle.endtoend.proofs.LongEnough.{printed-fits, same-verdict, never-10}
+use Rattle.pagetheorems.proofs.Fits.{page-fits, none-negative}
+use Rattle.pagetheorems.proofs.Rows.{complete}
+
+module _ (t : List ℕ) (accepted : clearText t .verdict ≡ Accepted) where
+  abbrev a : Award
+  a = clearText t .award
+
+  -- a line for each bid, and one before them
+  pub page-lines : PageLines (a .count + 1) (pageText a)
+  page-lines = subst (λ (n : ℕ). PageLines (n + 1) (pageText a)) (complete t accepted .many) (lines-that-fit a (page-fits t accepted))
+
+  pub page-length : length (pageText a) ≡ 65 * (a .count + 1)
+  page-length = lines-length (a .count + 1) (pageText a) page-lines
+
+  pub page-585 : length (pageText a) ≤ 585
+  page-585 = omega (arith, page-length, text-count-up-to t accepted)
+
+  -- the whole record is read back, and so what the sheet shows
+  pub page-read : awardIn (pageText a) ≡ a
+  page-read = award-back a (page-fits t accepted) (none-negative t accepted) (complete t accepted)
+
+  pub columns-give-sheet : sheetText (awardIn (pageText a)) ≡ sheetText a
+  columns-give-sheet = ap sheetText page-read
+
+-- 585 bytes hold whatever is printed, and with them no page is refused by 10
+pub page-prints-fit : (t : List ℕ) → length (pagePrints t) ≤ 585
+page-prints-fit t = printed-fits pageText 585 t (page-585 t) (omega arith)
+
+pub page-never-short : (t out : List ℕ) → 585 ≤ length out → (place : ℕ) → pageWritten t (length out) .verdict ≡ Refused OutputLength place → ⊥
+page-never-short t out enough = never-10 pageText 585 t (page-585 t) out enough
+
+-- a page is refused exactly where a sheet is, each in an output that is long enough
+pub as-sheet : (t out other : List ℕ) → 585 ≤ length out → 600 ≤ length other
+    → pageWritten t (length out) .verdict ≡ sheetWritten t (length other) .verdict
+as-sheet t out other h k = same-verdict pageText 585 t (page-585 t) out h ∙ sym (sheet-verdict t other k)
+
+-- the bytes that are written, as many as are answered, give the award again
+module _ (t out : List ℕ) (accepted : pageWritten t (length out) .verdict ≡ Accepted) where
+  pub written-read : awardIn (take (pageWritten t (length out) .bytes) (pageOutput t out)) ≡ clearText t .award
+  unfolding writtenAs outputAs writtenOf
+  written-read =
+      let page = pageText (clearText t .award) in
+      ap awardIn (text-written (clearText t .verdict) page out accepted) ∙ page-read t (accepted-before (clearText t .verdict) page out accepted)

@@ -1,0 +1,59 @@
+-- The rows of a cleared text's award: as many as it counts, and past them zeros and `none`. Assumes nothing.
+use Prim.Native.Nat.{ℕ, _≤_}
+use native.Mathlib.Omega.{arith}
+use mathlib.Core.List.{List}
+use mathlib.Core.Path.{_≡_, sym, ap, _∙_, subst}
+use lib.ListN.{length, length-map}
+use lib.Seq.{length-take-le}
+use Rattle.lists.specs.Padded.{padded}
+use Rattle.lists.proofs.Padded.{length-padded, take-count}
+use Rattle.refusal.specs.declared.Verdict.the-variants.{Accepted}
+use Rattle.book.specs.declared.Book.{Book}
+use Rattle.book.specs.Entries.{BookEntries, bookEntries}
+use Rattle.supply.specs.Supply.{suppliesOf}
+use Rattle.divisions.proofs.Award.{as-many}
+use Rattle.award.specs.declared.Row.{Row}
+use Rattle.award.specs.declared.Award.{Award}
+use Rattle.award.specs.Award.{noRow}
+use Rattle.pagetext.proofs.ReadBack.{Complete}
+use Rattle.clearing.specs.declared.Clearing.{Clearing}
+use Rattle.clearing.specs.Clearing.{rowsFrom, awardRecord, clearOf}
+use Rattle.clearing.proofs.Made.{length-rows}
+use Rattle.awardtheorems.proofs.Answers.{Cleared, cleared}
+use Rattle.awardtheorems.proofs.Cleared.{award-of-book}
+use Rattle.awardtheorems.proofs.Counts.{few-bids, bids-counted}
+use Rattle.tender.specs.FromText.{clearText}
+use Rattle.endtoend.proofs.ClearedText.{of-records}
+
+module _ (book : Book) (held : length (book .bids) ≡ 8) (accepted : clearOf (bookEntries book) .verdict ≡ Accepted) where
+  abbrev b : BookEntries
+  b = bookEntries book
+
+  c : Cleared b
+  c = cleared b accepted
+
+  few : b .count ≤ 8
+  few = few-bids b (c .accepted)
+
+  -- a row for each bid
+  abbrev listed : List Row
+  listed = rowsFrom b 0 (b .bids) (c .award .quantities)
+
+  as-listed : length listed ≡ b .count
+  as-listed =
+      let sold = award-of-book b (c .award) (c .is-award) .division .allocation in
+      let many = as-many (suppliesOf (b .bids)) (c .award .quantities) sold ∙ length-map (b .bids) _ in
+      length-rows b 0 (b .bids) (c .award .quantities) (sym many) ∙ bids-counted book held (c .accepted)
+
+  made-complete : Complete (awardRecord b (c .award))
+  unfolding awardRecord
+  made-complete = record {
+    many = length-take-le (b .count) (padded 8 noRow listed) (omega (arith, few, length-padded 8 noRow listed));
+    past = ap (padded 8 noRow) (sym (take-count 8 (b .count) noRow listed (sym as-listed) few));
+  }
+
+  book-complete : Complete (clearOf b .award)
+  book-complete = subst (λ (x : Clearing). Complete (x .award)) (sym (c .answer)) made-complete
+
+pub complete : (t : List ℕ) → clearText t .verdict ≡ Accepted → Complete (clearText t .award)
+complete t accepted = of-records t accepted (λ (b : BookEntries) (a : Award). Complete a) book-complete

@@ -1,0 +1,1 @@
+// What holds of the page of every cleared text (proofs/); no code.
