@@ -5,7 +5,7 @@ ghost use mathlib.Core.Bool.{cond};
 ghost use lib.ListN.{length};
 ghost use Rattle.refusal.specs.Number.{numberOf, placeOf};
 ghost use Rattle.bookanswers.specs.BookAnswers.{bookWritten, bookOutput, roomText, splitText};
-ghost use Rattle.tender.specs.FromText.{sheetWritten, sheetOutput};
+ghost use Rattle.tender.specs.FromText.{sheetWritten, sheetOutput, pageWritten, pageOutput};
 ghost use Rattle.awardnumbers.specs.Numbers.{awardVerdict, awardTotal, awardCount, awardOutput};
 
 // The award sheet of a book, and its length.
@@ -25,6 +25,26 @@ pub extern "C" fn boccelarch_sheet(
     let verdict = sheet.verdict;
     *place = refusal::place(verdict);
     *bytes = sheet.bytes;
+    refusal::number(verdict)
+}
+
+// The page of the award, and its length.
+#[no_mangle]
+pub extern "C" fn boccelarch_page(
+    text: &[u8],
+    out: &mut [u8],
+    place: &mut u64,
+    bytes: &mut u64,
+) -> u64
+    ensures { λ r. ⌜ r ≡ numberOf (pageWritten (now (text .entry)) (length (now (out .entry))) .verdict) ⌝ }
+    ensures { λ _. ⌜ now (place .exit) ≡ placeOf (pageWritten (now (text .entry)) (length (now (out .entry))) .verdict) ⌝ }
+    ensures { λ _. ⌜ now (bytes .exit) ≡ pageWritten (now (text .entry)) (length (now (out .entry))) .bytes ⌝ }
+    ensures { λ _. ⌜ now (out .exit) ≡ pageOutput (now (text .entry)) (now (out .entry)) ⌝ }
+{
+    let page = tender::page(text, out);
+    let verdict = page.verdict;
+    *place = refusal::place(verdict);
+    *bytes = page.bytes;
     refusal::number(verdict)
 }
 

@@ -2,6 +2,7 @@
 ghost use Prim.Native.Nat.{_≤_};
 use crate::pieces;
 use crate::show;
+use awardwriter::Layout;
 use book::Bid;
 use book::Book;
 use book::Segment;
@@ -22,7 +23,8 @@ pub fn answer(line: &[u8], numbers: &[u8], quantities: &[u64], out: &mut [u8]) {
             show::answer(verdict, figure.bytes);
         }
         b'p' => show::price(split::price_split(book, quantities)),
-        b'a' => sheet(book, out),
+        b'a' => award(Layout::Sheet, book, out),
+        b'o' => award(Layout::Page, book, out),
         b'w' => {
             let w = bookwriter::write(book, out);
             show::output(w, out);
@@ -31,12 +33,12 @@ pub fn answer(line: &[u8], numbers: &[u8], quantities: &[u64], out: &mut [u8]) {
     }
 }
 
-// The sheet of the award, also of the empty one beside a refusal.
-fn sheet(book: Book, out: &mut [u8]) {
+// The award written in a layout, also the empty one beside a refusal.
+fn award(layout: Layout, book: Book, out: &mut [u8]) {
     let cleared = clearing::clear(book);
     let verdict = cleared.verdict;
     let award = cleared.award;
-    let w = sheet::write(award, out);
+    let w = awardwriter::write(layout, award, out);
     show::answer(verdict, w.bytes);
     show::line(out);
 }

@@ -1,6 +1,7 @@
 // What is asked about a text.
 use crate::pieces;
 use crate::show;
+use awardwriter::Layout;
 
 pub fn answer(line: &[u8], text: &[u8], quantities: &[u64], out: &mut [u8]) {
     match pieces::byte(line, 0) {
@@ -15,6 +16,10 @@ pub fn answer(line: &[u8], text: &[u8], quantities: &[u64], out: &mut [u8]) {
             let w = tender::sheet(text, out);
             show::output(w, out);
         }
+        b'o' => {
+            let w = tender::page(text, out);
+            show::output(w, out);
+        }
         b'w' => {
             let w = tender::write(text, out);
             show::output(w, out);
@@ -26,7 +31,7 @@ pub fn answer(line: &[u8], text: &[u8], quantities: &[u64], out: &mut [u8]) {
 // What the program `clear` prints for it.
 fn printed(text: &[u8]) {
     let mut out = [b'.'; 600];
-    let end = printout::print(text, &mut out);
+    let end = printout::print(Layout::Sheet, text, &mut out);
     io::write_all(1, &out[..end]);
 }
 

@@ -16,7 +16,7 @@ use Rattle.award.specs.declared.Total.the-variants.{Amount, Nothing}
 use Rattle.award.specs.declared.Row.{Row}
 use Rattle.award.specs.declared.Award.{Award}
 use Rattle.award.specs.Award.{noRow, rowOf}
-use Rattle.sheettext.specs.Sheet.{sheetText}
+use Rattle.sheettext.specs.Sheet.{firstText, sheetText}
 use Rattle.pagetext.specs.Page.{pageFirst, pageText}
 use Rattle.without.specs.Without.{bookWithout}
 use Rattle.awardtheorems.specs.OfBook.{IsAwardOf}
@@ -67,7 +67,7 @@ module _ (b : BookEntries) (x y : Award) (this : TheAward b x) (that : TheAward 
 -- neither the sheet nor the page shows more
 
 pub sheet-shows : ShowsRowsOnly sheetText
-unfolding sheetText
+unfolding sheetText firstText
 sheet-shows x y demand total rows = rw (demand, total, rows)
 
 pub page-shows : ShowsRowsOnly pageText

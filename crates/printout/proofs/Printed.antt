@@ -7,13 +7,23 @@ use lib.ListN.{length, take}
 use Rattle.refusal.specs.declared.Verdict.the-variants.{Accepted}
 use Rattle.output.specs.declared.TextWritten.{TextWritten}
 use Rattle.output.proofs.Answers.{Answered, all-written}
-use Rattle.tender.specs.FromText.{clearPrints}
+use Rattle.awardwriter.specs.declared.Layout.{Layout}
+use Rattle.awardwriter.specs.declared.Layout.the-variants.{Sheet, Page}
+use Rattle.awardwriter.specs.Layout.{layoutText}
+use Rattle.tender.specs.FromText.{printedAs}
 use Rattle.endtoend.proofs.Fits.{prints-fit}
+use Rattle.pagetheorems.proofs.Page.{page-prints-fit}
 
-pub all-printed : (t out : List ℕ) → length out ≡ 600 → (answer : TextWritten) (exit : List ℕ) → length exit ≡ length out
-    → Answered Accepted (clearPrints t) out answer exit → (take (answer .bytes) exit ≡ clearPrints t) × (answer .bytes ≤ length exit)
-all-printed t out held answer exit same (is, left) =
-    let fits : length (clearPrints t) ≤ length out = omega (arith, prints-fit t) in
-    let (size, whole) = all-written Accepted (clearPrints t) out refl fits in
-    let bytes : answer .bytes ≡ length (clearPrints t) = ap (λ (w : TextWritten). w .bytes) is ∙ size in
+fits : (layout : Layout) (t : List ℕ) → length (printedAs (layoutText layout) t) ≤ 600
+fits Sheet t = prints-fit t
+fits Page t = omega (arith, page-prints-fit t)
+
+pub all-printed : (layout : Layout) (t out : List ℕ) → length out ≡ 600 → (answer : TextWritten) (exit : List ℕ) → length exit ≡ length out
+    → Answered Accepted (printedAs (layoutText layout) t) out answer exit
+    → (take (answer .bytes) exit ≡ printedAs (layoutText layout) t) × (answer .bytes ≤ length exit)
+all-printed layout t out held answer exit same (is, left) =
+    let text = printedAs (layoutText layout) t in
+    let enough : length text ≤ length out = omega (arith, fits layout t) in
+    let (size, whole) = all-written Accepted text out refl enough in
+    let bytes : answer .bytes ≡ length text = ap (λ (w : TextWritten). w .bytes) is ∙ size in
     (ap₂ take bytes left ∙ whole, omega arith)

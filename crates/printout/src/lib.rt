@@ -1,18 +1,20 @@
 // What the programs print for a text. It is no entry: it answers how many bytes are to be printed and no verdict, so what has to know
-// whether a text is refused calls `tender::sheet`.
+// whether a text is refused calls `tender::sheet` or `tender::page`.
 ghost use mathlib.Core.Path.{_≡_};
 ghost use Prim.Native.Nat.{_≤_};
 ghost use lib.ListN.{length, take};
 ghost use Rattle.refusal.specs.declared.Verdict.the-variants.{Accepted};
 ghost use Rattle.output.specs.Writing.{writtenOf, outputAfter};
-ghost use Rattle.tender.specs.FromText.{clearPrints};
+ghost use Rattle.awardwriter.specs.Layout.{layoutText};
+ghost use Rattle.tender.specs.FromText.{printedAs};
+use awardwriter::Layout;
 use output::TextWritten;
 use refusal::Verdict;
 
-// The sheet, or the line of the refusal.
-fn write(text: &[u8], out: &mut [u8]) -> TextWritten
-    ensures { λ r. ⌜ r ≡ writtenOf Accepted (clearPrints (now (text .entry))) (length (now (out .entry))) ⌝ }
-    ensures { λ r. ⌜ now (out .exit) ≡ outputAfter Accepted (clearPrints (now (text .entry))) (now (out .entry)) ⌝ }
+// The award in a layout, or the line of the refusal.
+fn write(layout: Layout, text: &[u8], out: &mut [u8]) -> TextWritten
+    ensures { λ r. ⌜ r ≡ writtenOf Accepted (printedAs (layoutText layout) (now (text .entry))) (length (now (out .entry))) ⌝ }
+    ensures { λ r. ⌜ now (out .exit) ≡ outputAfter Accepted (printedAs (layoutText layout) (now (text .entry))) (now (out .entry)) ⌝ }
 {
     let cleared = tender::clear(text);
     let verdict = cleared.verdict;
@@ -20,15 +22,15 @@ fn write(text: &[u8], out: &mut [u8]) -> TextWritten
         return sheet::write_refusal(rule, place, out);
     }
     let award = cleared.award;
-    sheet::write(award, out)
+    awardwriter::write(layout, award, out)
 }
 
 // Puts what is to be printed for a text at the beginning of the output, and answers how many bytes it has: 600 bytes hold it.
-pub fn print(text: &[u8], out: &mut [u8]) -> usize
+pub fn print(layout: Layout, text: &[u8], out: &mut [u8]) -> usize
     requires { ⌜ length (now out) ≡ 600 ⌝ }
-    ensures { λ r. ⌜ take r (now (out .exit)) ≡ clearPrints (now (text .entry)) ⌝ }
+    ensures { λ r. ⌜ take r (now (out .exit)) ≡ printedAs (layoutText layout) (now (text .entry)) ⌝ }
     ensures { λ r. ⌜ r ≤ length (now (out .exit)) ⌝ }
 {
-    let written = write(text, out);
+    let written = write(layout, text, out);
     written.bytes as usize
 }

@@ -5,11 +5,11 @@ ghost use Rattle.refusal.specs.declared.Verdict.the-variants.{Accepted};
 ghost use Rattle.sheettext.specs.Sheet.{sheetText};
 ghost use Rattle.output.specs.Writing.{writtenOf, outputAfter};
 
-// The lines of the sheet; the line of a refusal.
+// The line of a refusal.
 mod refusals;
-mod rows;
 
 use award::Award;
+use awardwriter::Layout;
 use output::TextWritten;
 pub use refusals::write_refusal;
 
@@ -18,11 +18,5 @@ pub fn write(award: Award, out: &mut [u8]) -> TextWritten
     ensures { λ r. ⌜ r ≡ writtenOf Accepted (sheetText award) (length (now (out .entry))) ⌝ }
     ensures { λ r. ⌜ now (out .exit) ≡ outputAfter Accepted (sheetText award) (now (out .entry)) ⌝ }
 {
-    let mut nowhere = [0u8; 1];
-    let needed = rows::put_sheet(&mut nowhere, award);
-    if out.len() < needed {
-        return output::too_short(needed);
-    }
-    rows::put_sheet(out, award);
-    output::whole(needed)
+    awardwriter::write(Layout::Sheet, award, out)
 }

@@ -3,9 +3,8 @@ ghost use mathlib.Core.Path.{_≡_};
 ghost use mathlib.Core.List.{_++_};
 ghost use Rattle.lists.specs.Joined.{joined};
 ghost use Rattle.forms.specs.Bytes.{ascii};
-ghost use Rattle.forms.specs.Digits.{digits, signedDigits};
 ghost use Rattle.lines.specs.Line.{partText};
-ghost use Rattle.sheettext.specs.Sheet.{totalText, rowText, refusalText};
+ghost use Rattle.sheettext.specs.Sheet.{totalText, rowText, firstText, refusalText};
 use award::Award;
 use award::Row;
 use award::Total;
@@ -43,8 +42,7 @@ pub fn row_line(row: Row) -> [Part; 8]
 
 // Demand and total price.
 pub fn first_line(award: Award) -> [Part; 8]
-    ensures { λ r. ⌜ joined partText r
-        ≡ ascii "(award " ++ digits (award .demand .0) ++ ascii " " ++ signedDigits (award .total .0) ++ ascii ")\n" ⌝ }
+    ensures { λ r. ⌜ joined partText r ≡ firstText award ⌝ }
 {
     let total = award.total;
     [

@@ -9,7 +9,7 @@ use Rattle.refusal.specs.Number.{numberOf, placeOf}
 use Rattle.refusal.specs.declared.Verdict.{Verdict}
 use Rattle.award.specs.declared.Row.{Row}
 use Rattle.award.specs.declared.Award.{Award}
-use Rattle.sheettext.specs.Sheet.{totalText, rowText, sheetText, refusalText}
+use Rattle.sheettext.specs.Sheet.{totalText, rowText, firstText, sheetText, refusalText}
 
 pub row-size : (row : Row)
     → length (rowText row)
@@ -26,7 +26,7 @@ row-size row = simp length-append (omega arith)
 pub sheet-size : (award : Award)
     → length (sheetText award)
     ≡ 10 + length (digits (award .demand .0)) + length (signedDigits (award .total .0)) + length (joined rowText (take (award .count) (award .rows)))
-unfolding sheetText
+unfolding firstText sheetText
 sheet-size award = simp length-append (omega arith)
 
 pub refusal-size : (verdict : Verdict)

@@ -28,13 +28,13 @@ rowText row =
     ++ ascii " (without " ++ totalText (row .without)
     ++ ascii "))\n"
 
--- demand and total price, and then a line for every bid, in book order
+-- demand and total price
+unfoldable pub firstText : Award → List ℕ
+firstText award = ascii "(award " ++ digits (award .demand .0) ++ ascii " " ++ signedDigits (award .total .0) ++ ascii ")\n"
+
+-- and then a line for every bid, in book order
 unfoldable pub sheetText : Award → List ℕ
-sheetText award =
-    ascii "(award " ++ digits (award .demand .0)
-    ++ ascii " " ++ signedDigits (award .total .0)
-    ++ ascii ")\n"
-    ++ joined rowText (take (award .count) (award .rows))
+sheetText award = firstText award ++ joined rowText (take (award .count) (award .rows))
 
 -- the one line of a refusal: number and place
 unfoldable pub refusalText : Verdict → List ℕ

@@ -12,7 +12,7 @@ use Rattle.divisions.specs.Award.{givesMore, better, pick}
 use Rattle.choices.specs.Choice.{fits, width, filled}
 use Rattle.choices.specs.Search.{each, leaf, search}
 use Rattle.award.specs.Award.{rowOf}
-use Rattle.sheettext.specs.Sheet.{totalText, rowText, sheetText, refusalText}
+use Rattle.sheettext.specs.Sheet.{totalText, rowText, firstText, sheetText, refusalText}
 use Rattle.without.specs.Without.{bookWithout}
 use Rattle.workedcases.specs.Table.{table}
 use Rattle.workedcases.proofs.Books.{books}
@@ -24,5 +24,5 @@ use Rattle.workedcases.proofs.Test.{passes, allPass}
 pub computed : allPass table books ≡ true
 unfolding table books every priceOf segmentInRange bidInRange segmentsRise startNotNegative bidVerdict bidsVerdict bookVerdict on priceAt numberFrom segmentNumber
     printedTable sampleAbove sampleOf givesMore better pick fits width filled each leaf search rowOf bookWithout digitsWithin digits signedDigits segmentText bidText
-    bookText totalText rowText sheetText refusalText eqBytes bookSmall bookFits passes allPass
+    bookText totalText rowText firstText sheetText refusalText eqBytes bookSmall bookFits passes allPass
 computed = refl

@@ -1,17 +1,19 @@
--- The line of the refusal is written where the text is refused, else the sheet: each is the text that is printed.
+-- The line of the refusal is written where the text is refused, else the award in the layout: each is the text that is printed.
 use Prim.Native.Nat.{ℕ}
 use mathlib.Core.List.{List}
 use mathlib.Core.Path.{sym, ap, _∙_}
 use borrow.Author.Needs.{needs}
-use Rattle.sheettext.specs.Sheet.{sheetText, refusalText}
+use Rattle.sheettext.specs.Sheet.{refusalText}
 use Rattle.clearing.specs.declared.Clearing.{Clearing}
+use Rattle.awardwriter.specs.declared.Layout.{Layout}
+use Rattle.awardwriter.specs.Layout.{layoutText}
 use Rattle.tender.specs.FromText.{printedAs}
 use Rattle.bookanswers.proofs.Answers.{if-refused, if-accepted, same-text}
 use Rattle.printout.proofs.write.Statement.{statement}
 use Rattle.printout.proofs.write.Tie as tie
 
-abbrev accepted : Clearing → List ℕ
-accepted cleared = sheetText (cleared .award)
+abbrev accepted : Layout → Clearing → List ℕ
+accepted layout cleared = layoutText layout (cleared .award)
 
 abbrev refused : Clearing → List ℕ
 refused cleared = refusalText (cleared .verdict)
@@ -21,16 +23,18 @@ unfolding printedAs
 returns c =
     let written = c .before .before in
     let told = written .before .before .before in
-    let is = told .before .before .clear .ensures in
+    let cleared = told .before .before in
     let refusal = told .verdict .given .1 in
-    same-text (ap refusalText (sym refusal) ∙ if-refused (λ (r : Clearing). r .verdict) is refusal accepted refused) _ (written .write-refusal .ensures)
+    let line = if-refused (λ (r : Clearing). r .verdict) (cleared .clear .ensures) refusal (accepted (cleared .before .before .before .args .layout)) refused in
+    same-text (ap refusalText (sym refusal) ∙ line) _ (written .write-refusal .ensures)
 
 returns-2 : tie.Need-returns-2
 unfolding printedAs
 returns-2 c =
     let told = c .before .before .before .before .before in
-    let is = told .before .before .clear .ensures in
-    same-text (if-accepted (λ (r : Clearing). r .verdict) is (told .enum-told .given .1) accepted refused) _ (c .before .before .write .ensures)
+    let cleared = told .before .before in
+    let award = if-accepted (λ (r : Clearing). r .verdict) (cleared .clear .ensures) (told .enum-told .given .1) (accepted (cleared .before .before .before .args .layout)) refused in
+    same-text award _ (c .before .before .write .ensures)
 
 pub write-spec : {M : Type 1} → statement M
 write-spec =

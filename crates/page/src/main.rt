@@ -1,0 +1,6 @@
+// Reads a bid book from standard input and prints the page of its award, or the one line of the refusal.
+use awardwriter::Layout;
+
+fn main() {
+    console::run(Layout::Page);
+}
