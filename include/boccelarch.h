@@ -13,8 +13,8 @@
  * functions keep no state, allocate nothing and may be called from several threads at once.
  *
  * A thread with a stack of 64 KB can call each of them: tests/boundary/run checks it on a book of eight bids of six segments.
- * With boccelarch_sheet and boccelarch_award most books are cleared in about a millisecond or less, the slowest known in 0.12 s
- * (bench/RESULTS.md).
+ * With boccelarch_sheet, boccelarch_page and boccelarch_award most books are cleared in about a millisecond or less, the slowest known in
+ * 0.12 s (bench/RESULTS.md).
  *
  * That the functions answer what docs/CLAIMS.md states is proved, for every text and every length.
  */
@@ -29,7 +29,7 @@ extern "C" {
 #endif
 
 /* The refusals, and what *place then is. Of several that are due, the first in this order is given: 1, 2, then the lines from the first, in
- * a line 3 to 8; after that 11 for a split, 9 and then 10 for a sheet or an award, 10 for a book. */
+ * a line 3 to 8; after that 11 for a split, 9 and then 10 for a sheet, a page or an award, 10 for a book. */
 enum boccelarch_refusal {
     BOCCELARCH_ACCEPTED = 0,
     BOCCELARCH_TEXT_LENGTH = 1,    /* the text is longer than 4,096 bytes: 4096 */
@@ -53,6 +53,20 @@ enum boccelarch_refusal {
 
 /* The award sheet, and its length in bytes. Refused by 1 to 10. */
 uint64_t boccelarch_sheet(const uint8_t *text, size_t text_length, uint8_t *out, size_t out_length, uint64_t *place, uint64_t *bytes);
+
+/* Enough for every page. */
+#define BOCCELARCH_PAGE_BYTES 585
+
+/* The page of the award, for print, and its length in bytes: a line for demand and total, then one for each bid, in book order. A line is 64
+ * bytes and a byte 10, so line i, counted from 0, begins at byte 65 * i. What it shows stands in these of its bytes, set to the right with
+ * spaces before:
+ *
+ *     line 0      0 to 19 demand, 20 to 63 total
+ *     other lines 0 to 5 bidder, 6 to 9 segment, 10 to 19 quantity, 20 to 39 price, 40 to 45 sample, 46 to 63 total without this bidder
+ *
+ * The price and both totals have a point and two decimals, so that 5 cents are 0.05 and 0 cents 0.00; instead of a total without a bidder
+ * there can be the word none. Refused by 1 to 10; 10 gives 65 bytes for each line. */
+uint64_t boccelarch_page(const uint8_t *text, size_t text_length, uint8_t *out, size_t out_length, uint64_t *place, uint64_t *bytes);
 
 /* The book written out again, and its length in bytes: of an accepted text, the same text. Refused by 1 to 8 and 10. An output of
  * BOCCELARCH_TEXT_BYTES holds every accepted book, and so does one of the bytes that boccelarch_room gives for it. */

@@ -129,7 +129,17 @@ static void situate(const char *entry, const char *name, size_t text_length, siz
 
 /* The entries: for each what it should answer, and the check of a call */
 
-typedef uint64_t output_entry(const uint8_t *, size_t, uint8_t *, size_t, uint64_t *, uint64_t *);
+enum output_entry { SHEET, PAGE, WRITE };
+
+static const struct {
+    const char *name;
+    uint64_t (*call)(const uint8_t *, size_t, uint8_t *, size_t, uint64_t *, uint64_t *);
+    size_t enough; /* a length in which everything that it writes has the room */
+} output_entries[] = {
+    {"sheet", boccelarch_sheet, BOCCELARCH_SHEET_BYTES},
+    {"page", boccelarch_page, BOCCELARCH_PAGE_BYTES},
+    {"write", boccelarch_write, BOCCELARCH_TEXT_BYTES},
+};
 
 struct output {
     uint64_t number, place;
@@ -154,8 +164,7 @@ static struct output output_in(struct text written, size_t room)
     return room < written.length ? refused_output(BOCCELARCH_OUTPUT_LENGTH, written.length) : accepted;
 }
 
-static void check_output(output_entry *entry, const char *entry_name, const char *name, struct text text, size_t room,
-                         struct output expected)
+static void check_output(enum output_entry entry, const char *name, struct text text, size_t room, struct output expected)
 {
     enum arrangement how;
 
@@ -163,9 +172,9 @@ static void check_output(output_entry *entry, const char *entry_name, const char
         struct lent lent_text = lend_copy(how, text.bytes, text.length), out = lend(how, room);
         struct lent place = lend(how, sizeof(uint64_t)), bytes = lend(how, sizeof(uint64_t));
 
-        situate(entry_name, name, text.length, room, how);
+        situate(output_entries[entry].name, name, text.length, room, how);
         expect_number("refusal", expected.number,
-                      entry(lent_text.bytes, text.length, out.bytes, room, numbers(&place), numbers(&bytes)));
+                      output_entries[entry].call(lent_text.bytes, text.length, out.bytes, room, numbers(&place), numbers(&bytes)));
         take_back_number("place", &place, expected.place);
         take_back_number("bytes", &bytes, expected.written.length);
         take_back("output", &out, expected.written.bytes, expected.written.length);
@@ -173,14 +182,30 @@ static void check_output(output_entry *entry, const char *entry_name, const char
     }
 }
 
-static void check_sheet(const char *name, struct text text, size_t room, struct output expected)
+/* Outputs of each length from `from` to `to`. */
+static void check_lengths(enum output_entry entry, const char *name, struct text text, struct text written, size_t from, size_t to)
 {
-    check_output(boccelarch_sheet, "sheet", name, text, room, expected);
+    size_t length;
+
+    for (length = from; length <= to; length++)
+        check_output(entry, name, text, length, output_in(written, length));
 }
 
-static void check_write(const char *name, struct text text, size_t room, struct output expected)
+/* An output of no bytes, of about as many as are written, and of enough for everything. */
+static void check_written(enum output_entry entry, const char *name, struct text text, struct text written)
 {
-    check_output(boccelarch_write, "write", name, text, room, expected);
+    size_t enough = output_entries[entry].enough;
+
+    check_lengths(entry, name, text, written, 0, 0);
+    check_lengths(entry, name, text, written, written.length - 2, written.length + 2);
+    check_lengths(entry, name, text, written, enough, enough);
+}
+
+/* A refusal that does not ask how long the output is: none is lent, and then enough. */
+static void check_refused_output(enum output_entry entry, const char *name, struct text text, uint64_t number, uint64_t place)
+{
+    check_output(entry, name, text, 0, refused_output(number, place));
+    check_output(entry, name, text, output_entries[entry].enough, refused_output(number, place));
 }
 
 struct room {
@@ -286,13 +311,14 @@ static void check_refused(const char *name, struct text text, uint64_t number, u
     static const uint64_t quantities[BIDS] = {0};
     struct room room = {0, 0, 0};
     struct split split = {0, 0, 0, 0};
+    enum output_entry entry;
     size_t all;
 
     room.number = split.number = number;
     room.place = split.place = place;
+    for (entry = SHEET; entry <= WRITE; entry++)
+        check_refused_output(entry, name, text, number, place);
     for (all = 0; all <= 1; all++) {
-        check_sheet(name, text, all * BOCCELARCH_SHEET_BYTES, refused_output(number, place));
-        check_write(name, text, all * BOCCELARCH_TEXT_BYTES, refused_output(number, place));
         check_split(name, text, quantities, all * COUNT(quantities), split);
         check_award(name, text, all * BOCCELARCH_AWARD_NUMBERS, refused_award(number, place));
     }
@@ -303,15 +329,11 @@ static void check_refused(const char *name, struct text text, uint64_t number, u
 static void check_accepted(const char *name, struct text text, uint64_t room_bytes)
 {
     struct room room = {0, 0, 0};
-    size_t length;
 
     room.bytes = room_bytes;
     check_room(name, text, room);
-    for (length = text.length - 2; length <= text.length + 2; length++)
-        check_write(name, text, length, output_in(text, length));
-    check_write(name, text, 0, output_in(text, 0));
-    check_write(name, text, room_bytes, output_in(text, room_bytes));
-    check_write(name, text, BOCCELARCH_TEXT_BYTES, output_in(text, BOCCELARCH_TEXT_BYTES));
+    check_written(WRITE, name, text, text);
+    check_lengths(WRITE, name, text, text, room_bytes, room_bytes);
 }
 
 /* 9 comes before 10, so it does not matter how long the output is. */
@@ -319,22 +341,14 @@ static void check_not_covered(const char *name, struct text text, uint64_t room_
 {
     size_t all;
 
-    for (all = 0; all <= 1; all++) {
-        check_sheet(name, text, all * BOCCELARCH_SHEET_BYTES, refused_output(BOCCELARCH_NOT_COVERED, 0));
+    check_refused_output(SHEET, name, text, BOCCELARCH_NOT_COVERED, 0);
+    check_refused_output(PAGE, name, text, BOCCELARCH_NOT_COVERED, 0);
+    for (all = 0; all <= 1; all++)
         check_award(name, text, all * BOCCELARCH_AWARD_NUMBERS, refused_award(BOCCELARCH_NOT_COVERED, 0));
-    }
     check_accepted(name, text, room_bytes);
 }
 
 /* Books that are cleared */
-
-static void check_sheet_lengths(const struct cleared *book, size_t from, size_t to)
-{
-    size_t length;
-
-    for (length = from; length <= to; length++)
-        check_sheet(book->name, book->text, length, output_in(book->sheet, length));
-}
 
 /* Every length of list: 10 with the bytes needed while it is too short. */
 static void check_award_lengths(const struct cleared *book)
@@ -355,13 +369,22 @@ static void check_cleared_books(void)
     const struct cleared *book;
 
     for (book = cleared; book < cleared + COUNT(cleared); book++) {
-        check_sheet_lengths(book, 0, 0);
-        check_sheet_lengths(book, book->sheet.length - 2, book->sheet.length + 2);
-        check_sheet_lengths(book, BOCCELARCH_SHEET_BYTES, BOCCELARCH_SHEET_BYTES);
+        check_written(SHEET, book->name, book->text, book->sheet);
+        check_written(PAGE, book->name, book->text, book->page);
+        expect_number("bytes of the page in cases.h", 65 * (book->count + 1), book->page.length);
         check_award_lengths(book);
         check_accepted(book->name, book->text, book->room);
     }
-    check_sheet_lengths(&cleared[0], 0, BOCCELARCH_SHEET_BYTES); /* document 01's sheet, in every length */
+}
+
+/* Document 01's book: everything that is written of it, in an output of every length. */
+static void check_every_length(void)
+{
+    const struct cleared *book = &cleared[0];
+
+    check_lengths(SHEET, book->name, book->text, book->sheet, 0, BOCCELARCH_SHEET_BYTES);
+    check_lengths(PAGE, book->name, book->text, book->page, 0, BOCCELARCH_PAGE_BYTES);
+    check_lengths(WRITE, book->name, book->text, book->text, 0, 2 * book->text.length);
 }
 
 static void check_books_not_covered(void)
@@ -410,19 +433,17 @@ static void check_limits(void)
                    2265);
 }
 
-/* Beginnings of document 01's book. One that ends with a bid's line is itself a book; every other is 2 with its length as the place. */
+/* Beginnings of document 01's book. One that ends with a bid's line is itself a book, that of two bids among those that are cleared; every
+ * other is 2 with its length as the place. */
 static void check_beginnings(void)
 {
-    static const struct text book = TEXT(BOOK(120)), one_bid = TEXT(DEMAND(120) BID_3), two_bids = TEXT(DEMAND(120) BID_3 BID_8);
-    static const struct text sheet = TEXT("(award 120 43100)\n(buy 3 2 100 34500 20 (without none))\n(buy 8 1 20 8600 5 (without none))\n");
+    static const struct text book = TEXT(BOOK(120)), one_bid = TEXT(DEMAND(120) BID_3), two_bids = TEXT(TWO_BIDS);
     struct text beginning = book;
 
     for (beginning.length = 0; beginning.length < book.length; beginning.length++)
         if (beginning.length != one_bid.length && beginning.length != two_bids.length)
             check_refused("a beginning", beginning, BOCCELARCH_SHAPE, beginning.length);
     check_not_covered("the first bid", one_bid, 118);
-    check_sheet("the first two bids", two_bids, BOCCELARCH_SHEET_BYTES, output_in(sheet, BOCCELARCH_SHEET_BYTES));
-    check_accepted("the first two bids", two_bids, 174);
 }
 
 /* What follows in memory is not taken for a part of the text or of the list, even if it would fit. */
@@ -431,14 +452,17 @@ static void check_what_follows(void)
     static const struct text book = TEXT(BOOK(120));
     static const uint64_t quantities[] = {60, 60, 0};
     const uint8_t *bytes = (const uint8_t *)book.bytes;
-    uint8_t sheet[BOCCELARCH_SHEET_BYTES];
+    uint8_t out[BOCCELARCH_TEXT_BYTES];
     uint64_t place, number, meets;
     int64_t price;
     size_t length = book.length - 1;
+    enum output_entry entry;
 
-    situate("sheet", "the book's last byte behind the text", length, sizeof sheet, IN_PLACE);
-    expect_number("refusal", BOCCELARCH_SHAPE, boccelarch_sheet(bytes, length, sheet, sizeof sheet, &place, &number));
-    expect_number("place", length, place);
+    for (entry = SHEET; entry <= WRITE; entry++) {
+        situate(output_entries[entry].name, "the book's last byte behind the text", length, sizeof out, IN_PLACE);
+        expect_number("refusal", BOCCELARCH_SHAPE, output_entries[entry].call(bytes, length, out, sizeof out, &place, &number));
+        expect_number("place", length, place);
+    }
     situate("split", "the third quantity behind the list", book.length, 2, IN_PLACE);
     expect_number("refusal", BOCCELARCH_SPLIT_QUANTITY, boccelarch_split(bytes, book.length, quantities, 2, &place, &price, &meets));
     expect_number("place", 4, place);
@@ -492,16 +516,6 @@ static void check_long_texts(void)
     check_refused("spaces", spaces(BOCCELARCH_TEXT_BYTES + 1), BOCCELARCH_TEXT_LENGTH, BOCCELARCH_TEXT_BYTES);
 }
 
-/* The book written out, in an output of every length. */
-static void check_written_book(void)
-{
-    static const struct text book = TEXT(BOOK(120));
-    size_t length;
-
-    for (length = 0; length <= 2 * book.length; length++)
-        check_write("every length", book, length, output_in(book, length));
-}
-
 /* Splits */
 
 static void check_splits(void)
@@ -516,6 +530,7 @@ int main(void)
 {
     setvbuf(stdout, NULL, _IOLBF, 0); /* the lines of failures stand even if a broken heap ends the program */
     check_cleared_books();
+    check_every_length();
     check_books_not_covered();
     check_shapes();
     check_rules();
@@ -523,7 +538,6 @@ int main(void)
     check_beginnings();
     check_what_follows();
     check_long_texts();
-    check_written_book();
     check_splits();
     printf("%lu passed, %lu failed\n", passed, failed);
     return failed > 0;

@@ -24,6 +24,7 @@ struct text {
 #define BID_12 "(bid 12 (seg 120 120 370 0))\n"
 #define DEMAND(blanks) "(demand " #blanks ")\n"
 #define BOOK(blanks) DEMAND(blanks) BID_3 BID_8 BID_12
+#define TWO_BIDS DEMAND(120) BID_3 BID_8
 
 /* Books that are cleared */
 
@@ -33,64 +34,130 @@ struct cleared {
     const char *name;
     struct text text;
     uint64_t room;
-    struct text sheet;
+    struct text sheet, page;
     uint64_t total, count;
     row rows[BIDS]; /* bidder, segment, quantity, price, sample, covered without this bidder, total without */
 };
 
-/* Eight bidders who each sell 125,000 blanks for 1,125,000,000,000 cents or nothing: a sheet of large numbers. */
-#define DEAR(bidder) "(bid " #bidder " (seg 125000 125000 1000000 1000000000000))\n"
-#define EIGHT_DEAR DEAR(9992) DEAR(9993) DEAR(9994) DEAR(9995) DEAR(9996) DEAR(9997) DEAR(9998) DEAR(9999)
+/* For books of eight bidders, 9992 to 9999: a line, or a row, for each but the last. */
+#define SEVEN_LINES(line, value)                                                                                                          \
+    line(9992, value) line(9993, value) line(9994, value) line(9995, value) line(9996, value) line(9997, value) line(9998, value)
+#define SEVEN_ROWS(row, covered, without)                                                                                                 \
+    row(9992, covered, without), row(9993, covered, without), row(9994, covered, without), row(9995, covered, without),                   \
+        row(9996, covered, without), row(9997, covered, without), row(9998, covered, without)
+
+/* Sells so many blanks at the highest prices, or nothing. */
+#define DEAR(bidder, blanks) "(bid " #bidder " (seg " #blanks " " #blanks " 1000000 1000000000000))\n"
+#define EIGHT_DEAR SEVEN_LINES(DEAR, 125000) DEAR(9999, 125000)
+
+/* Who sells 125,000 blanks for 1,125,000,000,000 cents, and who sells nothing: on the sheet, on the page and as a row. */
 #define SELLS(bidder, without) "(buy " #bidder " 1 125000 1125000000000 500 (without " #without "))\n"
-#define SEVEN_SELL(without)                                                                                                               \
-    SELLS(9992, without) SELLS(9993, without) SELLS(9994, without) SELLS(9995, without) SELLS(9996, without) SELLS(9997, without)         \
-    SELLS(9998, without)
+#define SELLS_NOTHING(bidder, without) "(buy " #bidder " 0 0 0 0 (without " #without "))\n"
+#define PAGE_SELLS(bidder, without) "  " #bidder "   1    125000      11250000000.00   500" without "\n"
+#define PAGE_SELLS_NOTHING(bidder, without) "  " #bidder "   0         0                0.00     0" without "\n"
 #define SELLER(bidder, covered, without) {bidder, 1, 125000, 1125000000000, 500, covered, without}
-#define SEVEN_SELLERS(covered, without)                                                                                                   \
-    SELLER(9992, covered, without), SELLER(9993, covered, without), SELLER(9994, covered, without), SELLER(9995, covered, without),       \
-        SELLER(9996, covered, without), SELLER(9997, covered, without), SELLER(9998, covered, without)
+#define NO_SELLER(bidder, covered, without) {bidder, 0, 0, 0, 0, covered, without}
 
 static const struct cleared cleared[] = {
     {"demand 120", TEXT(BOOK(120)), 230,
      TEXT("(award 120 43100)\n(buy 3 2 100 34500 20 (without 44400))\n(buy 8 1 20 8600 5 (without 44400))\n"
           "(buy 12 0 0 0 0 (without 43100))\n"),
+     TEXT("                 120                                      431.00\n"
+          "     3   2       100              345.00    20            444.00\n"
+          "     8   1        20               86.00     5            444.00\n"
+          "    12   0         0                0.00     0            431.00\n"),
      43100, 3, {{3, 2, 100, 34500, 20, 1, 44400}, {8, 1, 20, 8600, 5, 1, 44400}, {12, 0, 0, 0, 0, 1, 43100}}},
     {"demand 19", TEXT(BOOK(19)), 230,
      TEXT("(award 19 7600)\n(buy 3 1 19 7600 5 (without none))\n(buy 8 0 0 0 0 (without 7600))\n(buy 12 0 0 0 0 (without 7600))\n"),
+     TEXT("                  19                                       76.00\n"
+          "     3   1        19               76.00     5              none\n"
+          "     8   0         0                0.00     0             76.00\n"
+          "    12   0         0                0.00     0             76.00\n"),
      7600, 3, {{3, 1, 19, 7600, 5, 0, 0}, {8, 0, 0, 0, 0, 1, 7600}, {12, 0, 0, 0, 0, 1, 7600}}},
     {"demand 60", TEXT(BOOK(60)), 230,
      TEXT("(award 60 23800)\n(buy 3 0 0 0 0 (without 23800))\n(buy 8 1 60 23800 13 (without 24000))\n(buy 12 0 0 0 0 (without 23800))\n"),
+     TEXT("                  60                                      238.00\n"
+          "     3   0         0                0.00     0            238.00\n"
+          "     8   1        60              238.00    13            240.00\n"
+          "    12   0         0                0.00     0            238.00\n"),
      23800, 3, {{3, 0, 0, 0, 0, 1, 23800}, {8, 1, 60, 23800, 13, 1, 24000}, {12, 0, 0, 0, 0, 1, 23800}}},
     {"demand 61", TEXT(BOOK(61)), 230,
      TEXT("(award 61 20850)\n(buy 3 2 61 20850 13 (without 24180))\n(buy 8 0 0 0 0 (without 20850))\n(buy 12 0 0 0 0 (without 20850))\n"),
+     TEXT("                  61                                      208.50\n"
+          "     3   2        61              208.50    13            241.80\n"
+          "     8   0         0                0.00     0            208.50\n"
+          "    12   0         0                0.00     0            208.50\n"),
      20850, 3, {{3, 2, 61, 20850, 13, 1, 24180}, {8, 0, 0, 0, 0, 1, 20850}, {12, 0, 0, 0, 0, 1, 20850}}},
     {"demand 181", TEXT(BOOK(181)), 230,
      TEXT("(award 181 65250)\n(buy 3 2 61 20850 13 (without 68580))\n(buy 8 0 0 0 0 (without 65250))\n"
           "(buy 12 1 120 44400 20 (without none))\n"),
+     TEXT("                 181                                      652.50\n"
+          "     3   2        61              208.50    13            685.80\n"
+          "     8   0         0                0.00     0            652.50\n"
+          "    12   1       120              444.00    20              none\n"),
      65250, 3, {{3, 2, 61, 20850, 13, 1, 68580}, {8, 0, 0, 0, 0, 1, 65250}, {12, 1, 120, 44400, 20, 0, 0}}},
     {"demand 300", TEXT(BOOK(300)), 230,
      TEXT("(award 300 110300)\n(buy 3 2 100 34500 20 (without none))\n(buy 8 1 80 31400 13 (without none))\n"
           "(buy 12 1 120 44400 20 (without none))\n"),
+     TEXT("                 300                                     1103.00\n"
+          "     3   2       100              345.00    20              none\n"
+          "     8   1        80              314.00    13              none\n"
+          "    12   1       120              444.00    20              none\n"),
      110300, 3, {{3, 2, 100, 34500, 20, 0, 0}, {8, 1, 80, 31400, 13, 0, 0}, {12, 1, 120, 44400, 20, 0, 0}}},
     {"two bidders at one price", TEXT("(demand 10)\n(bid 1 (seg 1 10 5 0))\n(bid 2 (seg 1 10 5 0))\n"), 129,
      TEXT("(award 10 50)\n(buy 1 1 10 50 3 (without 50))\n(buy 2 0 0 0 0 (without 50))\n"),
+     TEXT("                  10                                        0.50\n"
+          "     1   1        10                0.50     3              0.50\n"
+          "     2   0         0                0.00     0              0.50\n"),
      50, 2, {{1, 1, 10, 50, 3, 1, 50}, {2, 0, 0, 0, 0, 1, 50}}},
     {"price 0 at a start", TEXT(DEMAND(120) "(bid 3 (seg 1 60 400 0) (seg 61 100 350 -21350))\n" BID_8 BID_12), 230,
      TEXT("(award 120 22250)\n(buy 3 2 100 13650 20 (without 44400))\n(buy 8 1 20 8600 5 (without 44400))\n"
           "(buy 12 0 0 0 0 (without 22250))\n"),
+     TEXT("                 120                                      222.50\n"
+          "     3   2       100              136.50    20            444.00\n"
+          "     8   1        20               86.00     5            444.00\n"
+          "    12   0         0                0.00     0            222.50\n"),
      22250, 3, {{3, 2, 100, 13650, 20, 1, 44400}, {8, 1, 20, 8600, 5, 1, 44400}, {12, 0, 0, 0, 0, 1, 22250}}},
     {"a total of 0 is not none", TEXT("(demand 1)\n(bid 1 (seg 1 1 0 0))\n(bid 2 (seg 1 1 0 0))\n"), 129,
      TEXT("(award 1 0)\n(buy 1 1 1 0 1 (without 0))\n(buy 2 0 0 0 0 (without 0))\n"),
+     TEXT("                   1                                        0.00\n"
+          "     1   1         1                0.00     1              0.00\n"
+          "     2   0         0                0.00     0              0.00\n"),
      0, 2, {{1, 1, 1, 0, 1, 1, 0}, {2, 0, 0, 0, 0, 1, 0}}},
     {"a price past 32 bits", TEXT("(demand 12000)\n(bid 1 (seg 1 12000 400000 0))\n"), 73,
      TEXT("(award 12000 4800000000)\n(buy 1 1 12000 4800000000 315 (without none))\n"),
+     TEXT("               12000                                 48000000.00\n"
+          "     1   1     12000         48000000.00   315              none\n"),
      4800000000, 1, {{1, 1, 12000, 4800000000, 315, 0, 0}}},
+    {"five cents", TEXT("(demand 1)\n(bid 1 (seg 1 1 5 0))\n"), 73,
+     TEXT("(award 1 5)\n(buy 1 1 1 5 1 (without none))\n"),
+     TEXT("                   1                                        0.05\n"
+          "     1   1         1                0.05     1              none\n"),
+     5, 1, {{1, 1, 1, 5, 1, 0, 0}}},
+    {"the first two bids", TEXT(TWO_BIDS), 174,
+     TEXT("(award 120 43100)\n(buy 3 2 100 34500 20 (without none))\n(buy 8 1 20 8600 5 (without none))\n"),
+     TEXT("                 120                                      431.00\n"
+          "     3   2       100              345.00    20              none\n"
+          "     8   1        20               86.00     5              none\n"),
+     43100, 2, {{3, 2, 100, 34500, 20, 0, 0}, {8, 1, 20, 8600, 5, 0, 0}}},
     {"eight bidders, all needed", TEXT(DEMAND(1000000) EIGHT_DEAR), 465,
-     TEXT("(award 1000000 9000000000000)\n" SEVEN_SELL(none) SELLS(9999, none)),
-     9000000000000, 8, {SEVEN_SELLERS(0, 0), SELLER(9999, 0, 0)}},
+     TEXT("(award 1000000 9000000000000)\n" SEVEN_LINES(SELLS, none) SELLS(9999, none)),
+     TEXT("             1000000                              90000000000.00\n"
+          SEVEN_LINES(PAGE_SELLS, "              none") PAGE_SELLS(9999, "              none")),
+     9000000000000, 8, {SEVEN_ROWS(SELLER, 0, 0), SELLER(9999, 0, 0)}},
     {"eight bidders, the last not needed", TEXT(DEMAND(875000) EIGHT_DEAR), 465,
-     TEXT("(award 875000 7875000000000)\n" SEVEN_SELL(7875000000000) "(buy 9999 0 0 0 0 (without 7875000000000))\n"),
-     7875000000000, 8, {SEVEN_SELLERS(1, 7875000000000), {9999, 0, 0, 0, 0, 1, 7875000000000}}},
+     TEXT("(award 875000 7875000000000)\n" SEVEN_LINES(SELLS, 7875000000000) SELLS_NOTHING(9999, 7875000000000)),
+     TEXT("              875000                              78750000000.00\n"
+          SEVEN_LINES(PAGE_SELLS, "    78750000000.00") PAGE_SELLS_NOTHING(9999, "    78750000000.00")),
+     7875000000000, 8, {SEVEN_ROWS(SELLER, 1, 7875000000000), NO_SELLER(9999, 1, 7875000000000)}},
+    {"each number at its widest",
+     TEXT(DEMAND(1000000) SEVEN_LINES(DEAR, 1000000) "(bid 9999 (seg 1000000 1000000 1000000 999999999999))\n"), 465,
+     TEXT("(award 1000000 1999999999999)\n" SEVEN_LINES(SELLS_NOTHING, 1999999999999)
+          "(buy 9999 1 1000000 1999999999999 1250 (without 2000000000000))\n"),
+     TEXT("             1000000                              19999999999.99\n"
+          SEVEN_LINES(PAGE_SELLS_NOTHING, "    19999999999.99")
+          "  9999   1   1000000      19999999999.99  1250    20000000000.00\n"),
+     1999999999999, 8, {SEVEN_ROWS(NO_SELLER, 1, 1999999999999), {9999, 1, 1000000, 1999999999999, 1250, 1, 2000000000000}}},
 };
 
 /* Texts that are refused */

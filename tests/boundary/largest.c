@@ -69,19 +69,17 @@ static void make_book(struct text *book, uint64_t demand)
 
 /* What the entries answer */
 
+struct output {
+    uint64_t number, place, bytes;
+    uint8_t out[BOCCELARCH_TEXT_BYTES];
+};
+
 struct answers {
     const struct text *book;
-    struct {
-        uint64_t number, place, bytes;
-        uint8_t out[BOCCELARCH_SHEET_BYTES];
-    } sheet;
+    struct output sheet, page, written;
     struct {
         uint64_t number, place, total, count, rows[BOCCELARCH_AWARD_NUMBERS];
     } award;
-    struct {
-        uint64_t number, place, bytes;
-        uint8_t out[BOCCELARCH_TEXT_BYTES];
-    } written;
     struct {
         uint64_t number, place, bytes;
     } room;
@@ -96,6 +94,13 @@ static uint64_t in_award(const struct answers *a, uint64_t bid, enum boccelarch_
     return a->award.rows[bid * BOCCELARCH_COLUMNS + column];
 }
 
+typedef uint64_t output_entry(const uint8_t *, size_t, uint8_t *, size_t, uint64_t *, uint64_t *);
+
+static void call_output(output_entry *entry, const struct text *book, size_t room, struct output *output)
+{
+    output->number = entry((const uint8_t *)book->bytes, book->length, output->out, room, &output->place, &output->bytes);
+}
+
 /* For pthread_create. Everything that is lent lies outside of the thread's stack. */
 static void *call_entries(void *answers)
 {
@@ -104,10 +109,11 @@ static void *call_entries(void *answers)
     size_t length = a->book->length;
     uint64_t bid;
 
-    a->sheet.number = boccelarch_sheet(text, length, a->sheet.out, sizeof a->sheet.out, &a->sheet.place, &a->sheet.bytes);
+    call_output(boccelarch_sheet, a->book, BOCCELARCH_SHEET_BYTES, &a->sheet);
+    call_output(boccelarch_page, a->book, BOCCELARCH_PAGE_BYTES, &a->page);
+    call_output(boccelarch_write, a->book, BOCCELARCH_TEXT_BYTES, &a->written);
     a->award.number = boccelarch_award(text, length, a->award.rows, BOCCELARCH_AWARD_NUMBERS, &a->award.place, &a->award.total,
                                        &a->award.count);
-    a->written.number = boccelarch_write(text, length, a->written.out, sizeof a->written.out, &a->written.place, &a->written.bytes);
     a->room.number = boccelarch_room(text, length, &a->room.place, &a->room.bytes);
     for (bid = 0; bid < BIDS; bid++)
         a->split.quantities[bid] = in_award(a, bid, BOCCELARCH_QUANTITY);
@@ -150,14 +156,15 @@ static void expect_accepted(const char *entry, uint64_t number, uint64_t place)
     expect_number(what, 0, place);
 }
 
-static void expect_text(const char *what, const struct text *expected, const uint8_t *bytes, uint64_t length)
+static void expect_output(const char *what, const struct text *expected, const struct output *got)
 {
-    if (length == expected->length && memcmp(expected->bytes, bytes, expected->length) == 0) {
+    expect_accepted(what, got->number, got->place);
+    if (got->bytes == expected->length && memcmp(expected->bytes, got->out, expected->length) == 0) {
         passed++;
         return;
     }
     failed++;
-    printf("%s: %s: expected\n%sgot\n%.*s\n", situation, what, expected->bytes, (int)length, (const char *)bytes);
+    printf("%s: %s: expected\n%sgot\n%.*s\n", situation, what, expected->bytes, (int)got->bytes, (const char *)got->out);
 }
 
 /* The sheet that the award's numbers make. */
@@ -178,6 +185,33 @@ static void make_sheet(struct text *sheet, uint64_t demand, const struct answers
     }
 }
 
+static void append_money(struct text *text, int width, uint64_t cents)
+{
+    append(text, "%*" PRIu64 ".%02" PRIu64, width - 3, cents / 100, cents % 100);
+}
+
+/* The page that the award's numbers make. */
+static void make_page(struct text *page, uint64_t demand, const struct answers *a)
+{
+    uint64_t bid;
+
+    page->length = 0;
+    append(page, "%20" PRIu64, demand);
+    append_money(page, 44, a->award.total);
+    append(page, "\n");
+    for (bid = 0; bid < BIDS; bid++) {
+        append(page, "%6" PRIu64 "%4" PRIu64 "%10" PRIu64, in_award(a, bid, BOCCELARCH_BIDDER), in_award(a, bid, BOCCELARCH_SEGMENT),
+               in_award(a, bid, BOCCELARCH_QUANTITY));
+        append_money(page, 20, in_award(a, bid, BOCCELARCH_PRICE));
+        append(page, "%6" PRIu64, in_award(a, bid, BOCCELARCH_SAMPLE));
+        if (in_award(a, bid, BOCCELARCH_COVERED))
+            append_money(page, 18, in_award(a, bid, BOCCELARCH_WITHOUT));
+        else
+            append(page, "%18s", "none");
+        append(page, "\n");
+    }
+}
+
 static uint64_t sum(const struct answers *a, enum boccelarch_column column)
 {
     uint64_t bid, all = 0;
@@ -189,17 +223,17 @@ static uint64_t sum(const struct answers *a, enum boccelarch_column column)
 
 static void check_answers(const struct answers *a, uint64_t demand, uint64_t total, uint64_t covered)
 {
-    static struct text sheet;
+    static struct text sheet, page;
 
-    expect_accepted("sheet", a->sheet.number, a->sheet.place);
+    make_sheet(&sheet, demand, a);
+    make_page(&page, demand, a);
+    expect_output("sheet", &sheet, &a->sheet);
+    expect_output("page", &page, &a->page);
+    expect_output("book written out", a->book, &a->written);
     expect_accepted("award", a->award.number, a->award.place);
-    expect_accepted("book written out", a->written.number, a->written.place);
     expect_accepted("room figure", a->room.number, a->room.place);
     expect_accepted("split", a->split.number, a->split.place);
 
-    make_sheet(&sheet, demand, a);
-    expect_text("sheet", &sheet, a->sheet.out, a->sheet.bytes);
-    expect_text("book written out", a->book, a->written.out, a->written.bytes);
     expect_number("room figure", ROOM, a->room.bytes);
     expect_number("bids", BIDS, a->award.count);
     expect_number("quantities", demand, sum(a, BOCCELARCH_QUANTITY));

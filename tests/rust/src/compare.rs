@@ -2,7 +2,9 @@
 
 use crate::entries::{Answer, Call, Entries};
 use crate::expected::Judged;
+use crate::page;
 use crate::shape::Shape;
+use crate::sheet;
 use std::collections::HashSet;
 
 /// How many differences are printed whole.
@@ -17,6 +19,8 @@ pub struct Counts {
     pub accepted: u64,
     pub cleared: u64,
     pub none: u64,
+    /// Pages of the product that were read back.
+    pub pages: u64,
 }
 
 pub struct Comparer {
@@ -58,7 +62,10 @@ impl Comparer {
         }
         for call in calls(&judged) {
             let expected = judged.answer(&call);
-            self.call(text, &call, &expected);
+            let answer = self.call(text, &call, &expected);
+            if matches!(call, Call::Page(_)) && answer.refusal == 0 {
+                self.read_back(text, &judged, &answer);
+            }
         }
         self.note(&judged);
     }
@@ -72,26 +79,36 @@ impl Comparer {
         }
     }
 
-    pub fn call(&mut self, text: &[u8], call: &Call, expected: &Answer) {
+    /// The columns of the product's page, read as numbers, must be what the sheet shows.
+    fn read_back(&mut self, text: &[u8], judged: &Judged, answer: &Answer) {
+        let page = answer.output.get(..answer.numbers[0] as usize);
+        let read = page.and_then(page::shown);
+        self.counts.pages += 1;
+        if !judged.sheet().is_ok_and(|sheet| read == Some(sheet::shown(&sheet))) {
+            self.different(|| format!("the columns of the page of the text \"{}\": {read:?}", text.escape_ascii()));
+        }
+    }
+
+    pub fn call(&mut self, text: &[u8], call: &Call, expected: &Answer) -> Answer {
         let answer = self.entries.answer(text, call);
         self.counts.calls += 1;
         if let Some(count) = self.refusals.get_mut(answer.refusal as usize) {
             *count += 1;
         }
         if answer != *expected {
-            self.counts.different += 1;
-            self.print(text, call, expected, &answer);
+            let (wanted, given) = (described(expected), described(&answer));
+            self.different(|| format!("{call:?} of the text \"{}\"\n  expected {wanted}\n  got      {given}", text.escape_ascii()));
         }
+        answer
     }
 
-    fn print(&mut self, text: &[u8], call: &Call, expected: &Answer, answer: &Answer) {
-        if self.printed == 0 {
-            return;
+    /// Counts a difference, and says which while few have been printed.
+    fn different(&mut self, which: impl FnOnce() -> String) {
+        self.counts.different += 1;
+        if self.printed > 0 {
+            self.printed -= 1;
+            println!("DIFFERENT: {}", which());
         }
-        self.printed -= 1;
-        println!("DIFFERENT: {call:?} of the text \"{}\"", text.escape_ascii());
-        println!("  expected {}", described(expected));
-        println!("  got      {}", described(answer));
     }
 }
 

@@ -1,10 +1,11 @@
-//! The five entries for C, called with lent memory, and everything that a call leaves behind.
+//! The six entries for C, called with lent memory, and everything that a call leaves behind.
 
 use crate::memory::{Area, Side};
 use crate::random::Random;
 
 extern "C" {
     fn boccelarch_sheet(text: *const u8, text_length: usize, out: *mut u8, out_length: usize, place: *mut u64, bytes: *mut u64) -> u64;
+    fn boccelarch_page(text: *const u8, text_length: usize, out: *mut u8, out_length: usize, place: *mut u64, bytes: *mut u64) -> u64;
     fn boccelarch_write(text: *const u8, text_length: usize, out: *mut u8, out_length: usize, place: *mut u64, bytes: *mut u64) -> u64;
     fn boccelarch_room(text: *const u8, text_length: usize, place: *mut u64, bytes: *mut u64) -> u64;
     fn boccelarch_split(
@@ -31,6 +32,7 @@ extern "C" {
 #[derive(Clone, Debug, PartialEq)]
 pub enum Call {
     Sheet(usize),
+    Page(usize),
     Write(usize),
     Room,
     Split(Vec<u64>),
@@ -56,7 +58,7 @@ pub fn pattern(length: usize) -> Vec<u8> {
 /// How many bytes of output, and which quantities, a call is lent.
 fn lent(call: &Call) -> (usize, &[u64]) {
     match call {
-        Call::Sheet(length) | Call::Write(length) => (*length, &[]),
+        Call::Sheet(length) | Call::Page(length) | Call::Write(length) => (*length, &[]),
         Call::Room => (0, &[]),
         Call::Split(quantities) => (0, quantities),
         Call::Award(length) => (8 * length, &[]),
@@ -109,7 +111,7 @@ impl Entries {
 }
 
 fn takes_one(call: &Call) -> bool {
-    matches!(call, Call::Sheet(_) | Call::Write(_) | Call::Room)
+    matches!(call, Call::Sheet(_) | Call::Page(_) | Call::Write(_) | Call::Room)
 }
 
 /// Calls the entry; `lent` is the output, or the quantities of a split.
@@ -121,6 +123,7 @@ fn enter(call: &Call, text: *const u8, length: usize, lent: *mut u8, numbers: &m
         let (place, first, second) = (numbers.add(1), numbers.add(3), numbers.add(5));
         match call {
             Call::Sheet(bytes) => boccelarch_sheet(text, length, lent, *bytes, place, first),
+            Call::Page(bytes) => boccelarch_page(text, length, lent, *bytes, place, first),
             Call::Write(bytes) => boccelarch_write(text, length, lent, *bytes, place, first),
             Call::Room => boccelarch_room(text, length, place, first),
             Call::Split(list) => boccelarch_split(text, length, lent.cast(), list.len(), place, first.cast(), second),

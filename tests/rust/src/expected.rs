@@ -3,6 +3,7 @@
 use crate::book::{refusal, Book, Refusal};
 use crate::clearing::{self, Award};
 use crate::entries::{pattern, Answer, Call};
+use crate::page;
 use crate::shape::Shape;
 use crate::sheet;
 use std::cell::OnceCell;
@@ -45,6 +46,13 @@ impl Judged {
         Ok(sheet)
     }
 
+    pub fn page(&self) -> Result<Vec<u8>, Refusal> {
+        let (book, award) = self.cleared()?;
+        let page = page::page(book, award);
+        assert!(page.len() == 65 * (book.bids.len() + 1), "a line of a page is 64 bytes and a byte 10");
+        Ok(page)
+    }
+
     pub fn written(&self) -> Result<Vec<u8>, Refusal> {
         let book = self.book()?;
         let text = book.written();
@@ -55,6 +63,7 @@ impl Judged {
     pub fn answer(&self, call: &Call) -> Answer {
         match call {
             Call::Sheet(length) => put_down(self.sheet(), *length, |bytes| [bytes, 0]),
+            Call::Page(length) => put_down(self.page(), *length, |bytes| [bytes, 0]),
             Call::Write(length) => put_down(self.written(), *length, |bytes| [bytes, 0]),
             Call::Room => bare(self.book().map(|book| [book.room(), 0])),
             Call::Split(list) => bare(self.split(list)),

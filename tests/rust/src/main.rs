@@ -1,8 +1,9 @@
 //! The entries for C compared with a reference of its own, which is written from the customer's paper alone.
 //!
 //! First the self-test (alone with `--self-test`), then the groups. A text is one book or what stands for one; on each several calls are
-//! made, and of each call the number returned, every number behind a pointer, every lent byte and the bytes around them are compared. In
-//! the last line, passed and failed count the compared calls: together they are all of them.
+//! made, and of each call the number returned, every number behind a pointer, every lent byte and the bytes around them are compared. Each
+//! page is also read back by its columns. In the last line, passed and failed count the compared calls and the pages read back: together
+//! they are all of them.
 
 #![deny(warnings)]
 
@@ -14,6 +15,7 @@ mod expected;
 mod generate;
 mod groups;
 mod memory;
+mod page;
 mod random;
 mod selftest;
 mod shape;
@@ -63,7 +65,7 @@ fn main() -> ExitCode {
     }
     let counts = comparer.counts;
     println!("{} accepted, {} cleared, {} totals `none`", counts.accepted, counts.cleared, counts.none);
-    println!("{} texts, {} calls compared, {} different", counts.texts, counts.calls, counts.different);
-    println!("{} passed, {} failed", counts.calls - counts.different, counts.different);
+    println!("{} texts, {} calls compared, {} pages read back, {} different", counts.texts, counts.calls, counts.pages, counts.different);
+    println!("{} passed, {} failed", counts.calls + counts.pages - counts.different, counts.different);
     ExitCode::from(u8::from(!good || counts.different > 0))
 }

@@ -6,9 +6,11 @@ use crate::clearing;
 use crate::compare::Comparer;
 use crate::entries::{Answer, Call};
 use crate::expected::Judged;
-use crate::generate::{books, families};
+use crate::generate::{books, bytes, families};
+use crate::page;
 use crate::random::Random;
 use crate::shape::Shape;
+use crate::sheet;
 
 const BIDS: &str = "(bid 3 (seg 1 60 400 0) (seg 61 100 350 -500))
 (bid 8 (seg 20 80 380 1000))
@@ -20,6 +22,14 @@ const SHEET: &str = "(award 120 43100)
 (buy 8 1 20 8600 5 (without 44400))
 (buy 12 0 0 0 0 (without 43100))
 ";
+
+/// The page of the same award, written by hand.
+const PAGE: &str = concat!(
+    "                 120                                      431.00\n",
+    "     3   2       100              345.00    20            444.00\n",
+    "     8   1        20               86.00     5            444.00\n",
+    "    12   0         0                0.00     0            431.00\n",
+);
 
 /// The checks done, and those that failed.
 #[derive(Default)]
@@ -71,6 +81,29 @@ fn paper_awards(checks: &mut Checks, shape: &Shape) {
     let pair = judged(shape, "(demand 10)\n(bid 1 (seg 1 10 5 0))\n(bid 2 (seg 1 10 5 0))\n");
     let award = pair.cleared().map(|cleared| cleared.1.clone());
     checks.check("two alike", award.is_ok_and(|a| a.quantities == [10, 0] && a.total == 50));
+}
+
+/// The page of the paper's book, and one with five cents and `none`.
+fn pages(checks: &mut Checks, shape: &Shape) {
+    let paper = judged(shape, &format!("(demand 120)\n{BIDS}")).page();
+    checks.check("the paper's page", paper == Ok(PAGE.as_bytes().to_vec()));
+    let uncovered = judged(shape, &format!("(demand 301)\n{BIDS}")).page();
+    checks.check("no page for the paper's demand 301", uncovered == Err(refusal(9, 0)));
+    let alone = judged(shape, "(demand 1)\n(bid 4 (seg 1 1 5 0))\n").page();
+    let first = "                   1                                        0.05\n";
+    let bid = "     4   1         1                0.05     1              none\n";
+    checks.check("a page with five cents and `none`", alone == Ok(format!("{first}{bid}").into_bytes()));
+}
+
+/// The columns of the paper's page are the numbers of its sheet, and with any byte altered they are not.
+fn columns(checks: &mut Checks) {
+    let numbers = [120, 43_100, 3, 2, 100, 34_500, 20, 44_400, 8, 1, 20, 8_600, 5, 44_400, 12, 0, 0, 0, 0, 43_100];
+    let all: Vec<Option<i64>> = numbers.into_iter().map(Some).collect();
+    checks.check("the numbers of the paper's sheet", sheet::shown(SHEET.as_bytes()) == all);
+    checks.check("the columns of the paper's page", page::shown(PAGE.as_bytes()) == Some(all.clone()));
+    for altered in bytes::edits(PAGE.as_bytes(), b" 19.-+n\n\xff") {
+        checks.check("the columns of an altered page", altered == PAGE.as_bytes() || page::shown(&altered) != Some(all.clone()));
+    }
 }
 
 /// The refusals printed under "Cases".
@@ -207,7 +240,8 @@ fn alterations(checks: &mut Checks) {
 fn alter_text(checks: &mut Checks, comparer: &mut Comparer, text: &str) {
     let judged = judged(&comparer.shape, text);
     let split = Call::Split(vec![60, 60, 0]);
-    for call in [Call::Sheet(600), Call::Sheet(9), Call::Write(300), Call::Room, split, Call::Award(56)] {
+    let outputs = [Call::Sheet(600), Call::Sheet(9), Call::Page(585), Call::Page(9), Call::Write(300)];
+    for call in outputs.into_iter().chain([Call::Room, split, Call::Award(56)]) {
         alter_answer(checks, comparer, text, &call, &judged.answer(&call));
     }
 }
@@ -228,6 +262,8 @@ pub fn run() -> bool {
     let shape = Shape::of_book();
     let mut checks = Checks::default();
     paper_awards(&mut checks, &shape);
+    pages(&mut checks, &shape);
+    columns(&mut checks);
     paper_refusals(&mut checks, &shape);
     places(&mut checks, &shape);
     listings(&mut checks);

@@ -1,4 +1,4 @@
-//! The award as rows of numbers and as a sheet.
+//! The award as rows of numbers and as a sheet, and the numbers that a sheet shows.
 
 use crate::book::Book;
 use crate::clearing::Award;
@@ -32,12 +32,12 @@ fn sample(quantity: i64) -> i64 {
 }
 
 /// Bidder, segment, quantity, price, blanks to sample; and the total without the bidder.
-struct Row {
-    numbers: [i64; 5],
-    without: Option<i64>,
+pub struct Row {
+    pub numbers: [i64; 5],
+    pub without: Option<i64>,
 }
 
-fn rows(book: &Book, award: &Award) -> Vec<Row> {
+pub fn rows(book: &Book, award: &Award) -> Vec<Row> {
     let row = |index: usize| {
         let bid = &book.bids[index];
         let quantity = award.quantities[index];
@@ -58,6 +58,14 @@ fn line(row: &Row) -> String {
 pub fn sheet(book: &Book, award: &Award) -> Vec<u8> {
     let lines: String = rows(book, award).iter().map(line).collect();
     format!("(award {} {})\n{lines}", book.demand, award.total).into_bytes()
+}
+
+/// The numbers that stand on a sheet, from the first on; nothing for `none`.
+pub fn shown(sheet: &[u8]) -> Vec<Option<i64>> {
+    let text = std::str::from_utf8(sheet).expect("a sheet has ASCII alone");
+    let words = text.split(['(', ')', ' ', '\n']);
+    let numbers = words.filter(|word| *word == "none" || word.starts_with(|c: char| c.is_ascii_digit()));
+    numbers.map(|word| word.parse().ok()).collect()
 }
 
 /// The rows of seven numbers that the entry for the award gives.

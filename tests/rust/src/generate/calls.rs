@@ -15,21 +15,29 @@ fn around(random: &mut Random, needed: usize) -> usize {
     }
 }
 
+/// The page in an output that holds every page, in one of just its bytes, in one that is a byte too short, and in none.
+fn pages(judged: &Judged) -> Vec<Call> {
+    let needed = judged.page().map_or(260, |bytes| bytes.len());
+    vec![Call::Page(585), Call::Page(needed), Call::Page(needed - 1), Call::Page(0)]
+}
+
 /// Each entry for a text that is refused in reading.
-fn on_refused(random: &mut Random) -> Vec<Call> {
+fn on_refused(random: &mut Random, judged: &Judged) -> Vec<Call> {
     let length = random.pick(&[600, 600, 4096, 100, 1, 0]);
     let rows = random.pick(&[56, 56, 7, 1, 0]);
     let list = splits::any(random);
-    vec![Call::Sheet(length), Call::Write(length), Call::Room, Call::Split(list), Call::Award(rows)]
+    let others = vec![Call::Sheet(length), Call::Write(length), Call::Room, Call::Split(list), Call::Award(rows)];
+    [others, pages(judged)].concat()
 }
 
-/// Each entry once with room for everything, and once more with a length around the one needed or another split.
+/// The page as above, each other entry once with room for everything, and once more with a length around the one needed or another split.
 pub fn usual(random: &mut Random, judged: &Judged) -> Vec<Call> {
-    let Ok(book) = &judged.reading else { return on_refused(random) };
+    let Ok(book) = &judged.reading else { return on_refused(random, judged) };
     let written = judged.written().expect("an accepted book").len();
     let sheet = judged.sheet().map_or(50, |bytes| bytes.len());
     let rows = 7 * book.bids.len();
-    let mut calls = vec![
+    let mut calls = pages(judged);
+    calls.extend([
         Call::Sheet(600),
         Call::Sheet(around(random, sheet)),
         Call::Write(random.pick(&[4096, book.room() as usize])),
@@ -37,7 +45,7 @@ pub fn usual(random: &mut Random, judged: &Judged) -> Vec<Call> {
         Call::Room,
         Call::Award(56),
         Call::Award(around(random, rows)),
-    ];
+    ]);
     for _ in 0..2 {
         let kind = random.below(splits::KINDS);
         calls.push(Call::Split(splits::of_kind(random, judged, book, kind)));
@@ -45,16 +53,17 @@ pub fn usual(random: &mut Random, judged: &Judged) -> Vec<Call> {
     calls
 }
 
-/// Each entry once: for books with many choices.
+/// The page as above and each other entry once: for books with many choices.
 pub fn once(random: &mut Random, judged: &Judged) -> Vec<Call> {
-    let Ok(book) = &judged.reading else { return on_refused(random) };
+    let Ok(book) = &judged.reading else { return on_refused(random, judged) };
     let split = splits::of_kind(random, judged, book, 0);
-    vec![Call::Sheet(600), Call::Write(4096), Call::Room, Call::Split(split), Call::Award(56)]
+    let others = vec![Call::Sheet(600), Call::Write(4096), Call::Room, Call::Split(split), Call::Award(56)];
+    [others, pages(judged)].concat()
 }
 
 /// The entries that do not clear, with each kind of split.
 pub fn without_clearing(random: &mut Random, judged: &Judged) -> Vec<Call> {
-    let Ok(book) = &judged.reading else { return on_refused(random) };
+    let Ok(book) = &judged.reading else { return on_refused(random, judged) };
     let written = judged.written().expect("an accepted book").len();
     let mut calls = vec![Call::Write(4096), Call::Write(around(random, written)), Call::Room];
     for kind in 3..splits::KINDS {
@@ -63,20 +72,22 @@ pub fn without_clearing(random: &mut Random, judged: &Judged) -> Vec<Call> {
     calls
 }
 
-/// Every length from 0 to 8 above the one needed, for the sheet, the book written again and the award.
+/// Every length from 0 to 8 above the one needed, for the sheet, the page, the book written again and the award.
 pub fn every_length(judged: &Judged) -> Vec<Call> {
     let sheet = judged.sheet().map_or(60, |bytes| bytes.len());
+    let page = judged.page().map_or(60, |bytes| bytes.len());
     let written = judged.written().map_or(60, |bytes| bytes.len());
     let rows = judged.reading.as_ref().map_or(7, |book| 7 * book.bids.len());
     let sheets = (0..=sheet + 8).map(Call::Sheet);
+    let pages = (0..=page + 8).map(Call::Page);
     let books = (0..=written + 8).map(Call::Write);
     let awards = (0..=rows + 8).map(Call::Award);
-    sheets.chain(books).chain(awards).collect()
+    sheets.chain(pages).chain(books).chain(awards).collect()
 }
 
 /// Each kind of split, several times.
 pub fn many_splits(random: &mut Random, judged: &Judged) -> Vec<Call> {
-    let Ok(book) = &judged.reading else { return on_refused(random) };
+    let Ok(book) = &judged.reading else { return on_refused(random, judged) };
     let kinds = (0..2 * splits::KINDS).map(|turn| turn % splits::KINDS);
     kinds.map(|kind| Call::Split(splits::of_kind(random, judged, book, kind))).collect()
 }
