@@ -71,10 +71,10 @@ module _ (book : Book) (held : length (book .bids) ≡ 8) (accepted : clearOf (b
   count-is : a .count ≡ book .count
   count-is = the-award book held accepted .count
 
-  few : a .count ≤ 8
+  pub few : a .count ≤ 8
   few = omega (arith, count-is, book-accepted (bookEntries book) (cleared (bookEntries book) accepted .accepted) .count-high)
 
-  each-up-to : (i : ℕ) → i < a .count → RowUpTo (rowAt a i)
+  pub each-up-to : (i : ℕ) → i < a .count → RowUpTo (rowAt a i)
   each-up-to i h = rows-up-to book held accepted i (omega (arith, count-is))
 
   pub sheet-bound : length (sheetText a) ≤ 31 + 65 * book .count
@@ -98,9 +98,6 @@ module _ (t : List ℕ) where
 
     pub text-total-up-to : UpTo mostTotal (clearText t .award .total .0)
     text-total-up-to = of-records t accepted (λ (b : BookEntries) (a : Award). UpTo mostTotal (a .total .0)) total-from-zero
-
-    pub text-count-up-to : clearText t .award .count ≤ 8
-    text-count-up-to = of-records t accepted (λ (b : BookEntries) (a : Award). a .count ≤ 8) few
 
     pub text-row-up-to : (i : ℕ) → i < clearText t .award .count → RowUpTo (rowAt (clearText t .award) i)
     text-row-up-to = of-records t accepted (λ (b : BookEntries) (a : Award). (i : ℕ) → i < a .count → RowUpTo (rowAt a i)) each-up-to

@@ -1,3 +1,4 @@
 pub mod Page
 pub mod ReadBack
 pub mod Fits
+pub mod ThePage

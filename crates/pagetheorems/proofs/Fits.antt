@@ -1,7 +1,6 @@
--- No column of the page of a cleared text is too narrow, and no amount on it is negative. Assumes nothing.
+-- No column of the page of a cleared book is too narrow, and no amount on it is negative. Assumes nothing.
 use Prim.Native.Nat.{ℕ, _^_, _≤_, _<_}
 use native.Mathlib.Omega.{arith}
-use mathlib.Core.List.{List}
 use mathlib.Core.Path.{_≡_}
 use lib.IntN.{ℤ, natAbs}
 use lib.ListN.{length}
@@ -11,6 +10,8 @@ use Rattle.forms.specs.Money.{moneyText}
 use Rattle.forms.proofs.Digits.{length-below}
 use Rattle.forms.proofs.Money.{money-below}
 use Rattle.refusal.specs.declared.Verdict.the-variants.{Accepted}
+use Rattle.book.specs.declared.Book.{Book}
+use Rattle.book.specs.Entries.{bookEntries}
 use Rattle.book.proofs.InRange.{mostCents}
 use Rattle.award.specs.declared.Total.{Total}
 use Rattle.award.specs.declared.Total.the-variants.{Amount, Nothing}
@@ -20,11 +21,11 @@ use Rattle.pagetext.specs.Page.{pageTotal}
 use Rattle.pagetext.specs.Fits.{RowFits, PageFits}
 use Rattle.pagetext.proofs.Amounts.{TotalFromZero}
 use Rattle.pagetext.proofs.ReadBack.{RowFromZero, AwardFromZero}
-use Rattle.tender.specs.FromText.{clearText}
+use Rattle.clearing.specs.Clearing.{clearOf}
 use Rattle.awardtheorems.specs.Awarded.{rowsOf}
 use Rattle.awardtheorems.proofs.Costs.{UpTo, mostTotal}
-use Rattle.awardtheorems.proofs.Amounts.{TotalUpTo, RowUpTo}
-use Rattle.endtoend.proofs.Fits.{every-row, text-demand-up-to, text-total-up-to, text-row-up-to}
+use Rattle.awardtheorems.proofs.Amounts.{TotalUpTo, RowUpTo, demand-up-to, total-from-zero}
+use Rattle.endtoend.proofs.Fits.{every-row, each-up-to}
 
 -- an amount below 10 to the power 17 has at most 18 bytes
 amount-short : (most : ℕ) (z : ℤ) → UpTo most z → most < 10 ^ 17 → length (moneyText z) ≤ 18
@@ -35,9 +36,9 @@ unfolding pageTotal
 total-short (Amount cents) h = amount-short mostTotal (cents .0) h (omega arith)
 total-short Nothing h = omega arith
 
-total-from-zero : (t : Total) → TotalUpTo mostTotal t → TotalFromZero t
-total-from-zero (Amount cents) h = h .not-negative
-total-from-zero Nothing h = tt
+without-from-zero : (t : Total) → TotalUpTo mostTotal t → TotalFromZero t
+without-from-zero (Amount cents) h = h .not-negative
+without-from-zero Nothing h = tt
 
 row-fits : (row : Row) → RowUpTo row → RowFits row
 row-fits row h =
@@ -49,23 +50,23 @@ row-fits row h =
     (bidder, (segment, (quantity, (omega arith, (sample, (total-short (row .without) (h .without), tt))))))
 
 row-from-zero : (row : Row) → RowUpTo row → RowFromZero row
-row-from-zero row h = record { price = h .price .not-negative; without = total-from-zero (row .without) (h .without) }
+row-from-zero row h = record { price = h .price .not-negative; without = without-from-zero (row .without) (h .without) }
 
-module _ (t : List ℕ) (accepted : clearText t .verdict ≡ Accepted) where
+module _ (book : Book) (held : length (book .bids) ≡ 8) (accepted : clearOf (bookEntries book) .verdict ≡ Accepted) where
   abbrev a : Award
-  a = clearText t .award
+  a = clearOf (bookEntries book) .award
 
   up-to : All RowUpTo (rowsOf a)
-  up-to = every-row RowUpTo a (text-row-up-to t accepted)
+  up-to = every-row RowUpTo a (each-up-to book held accepted)
 
   pub page-fits : PageFits a
   page-fits =
-      let demand = length-below 19 (a .demand .0) (omega (arith, text-demand-up-to t accepted)) in
-      let total = amount-short mostTotal (a .total .0) (text-total-up-to t accepted) (omega arith) in
+      let demand = length-below 19 (a .demand .0) (omega (arith, demand-up-to book held accepted)) in
+      let total = amount-short mostTotal (a .total .0) (total-from-zero book held accepted) (omega arith) in
       record { first = (demand, (omega arith, tt)); rows = all-from RowUpTo RowFits row-fits (rowsOf a) up-to }
 
   pub none-negative : AwardFromZero a
   none-negative = record {
-    total = text-total-up-to t accepted .not-negative;
+    total = total-from-zero book held accepted .not-negative;
     rows = all-from RowUpTo RowFromZero row-from-zero (rowsOf a) up-to;
   }

@@ -1,4 +1,5 @@
--- The page of every cleared text: its lines, how long it is, and that its columns give the award again. Assumes nothing.
+-- The page of every cleared book, of a record and of a text: its lines, how long it is, and that its columns give the award again. Assumes
+-- nothing.
 use Prim.Native.Nat.{ℕ, _+_, _*_, _≤_}
 use native.Mathlib.Omega.{arith}
 use mathlib.Core.List.{List}
@@ -6,6 +7,8 @@ use mathlib.Core.Path.{_≡_, sym, ap, _∙_, subst}
 use lib.ListN.{length, take}
 use Rattle.refusal.specs.declared.Rule.the-variants.{OutputLength}
 use Rattle.refusal.specs.declared.Verdict.the-variants.{Accepted, Refused}
+use Rattle.book.specs.declared.Book.{Book}
+use Rattle.book.specs.Entries.{BookEntries, bookEntries}
 use Rattle.output.specs.Writing.{writtenOf}
 use Rattle.output.proofs.Answers.{accepted-before, text-written}
 use Rattle.award.specs.declared.Award.{Award}
@@ -13,46 +16,57 @@ use Rattle.sheettext.specs.Sheet.{sheetText}
 use Rattle.pagetext.specs.Page.{pageText}
 use Rattle.pagetext.specs.ReadBack.{awardIn}
 use Rattle.pagetext.specs.Fits.{PageLines}
-use Rattle.pagetext.proofs.Page.{lines-length, page-lines as lines-that-fit}
+use Rattle.pagetext.specs.ThePage.{ThePage}
+use Rattle.pagetext.proofs.Page.{lines-length, page-lines}
 use Rattle.pagetext.proofs.ReadBack.{award-back}
+use Rattle.clearing.specs.Clearing.{clearOf}
 use Rattle.tender.specs.FromText.{clearText, writtenAs, outputAs, sheetWritten, pageWritten, pageOutput, pagePrints}
-use Rattle.endtoend.proofs.Fits.{text-count-up-to, sheet-verdict}
+use Rattle.endtoend.proofs.ClearedText.{of-records}
+use Rattle.endtoend.proofs.Fits.{few, sheet-verdict}
 use Rattle.endtoend.proofs.LongEnough.{printed-fits, same-verdict, never-10}
 use Rattle.pagetheorems.proofs.Fits.{page-fits, none-negative}
 use Rattle.pagetheorems.proofs.Rows.{complete}
 
+-- of a cleared record
+pub the-page : (book : Book) → length (book .bids) ≡ 8 → clearOf (bookEntries book) .verdict ≡ Accepted → ThePage (clearOf (bookEntries book) .award)
+the-page book held accepted =
+    let a = clearOf (bookEntries book) .award in
+    let fits = page-fits book held accepted in
+    let whole = complete book held accepted in
+    let lines = subst (λ (n : ℕ). PageLines (n + 1) (pageText a)) (whole .many) (page-lines a fits) in
+    record {
+      fits = fits;
+      lines = lines;
+      short = omega (arith, lines-length (a .count + 1) (pageText a) lines, few book held accepted);
+      read = award-back a fits (none-negative book held accepted) whole;
+    }
+
+-- of a cleared text
 module _ (t : List ℕ) (accepted : clearText t .verdict ≡ Accepted) where
   abbrev a : Award
   a = clearText t .award
 
-  -- a line for each bid, and one before them
-  pub page-lines : PageLines (a .count + 1) (pageText a)
-  page-lines = subst (λ (n : ℕ). PageLines (n + 1) (pageText a)) (complete t accepted .many) (lines-that-fit a (page-fits t accepted))
+  pub text-page : ThePage a
+  text-page = of-records t accepted (λ (b : BookEntries) (x : Award). ThePage x) the-page
 
   pub page-length : length (pageText a) ≡ 65 * (a .count + 1)
-  page-length = lines-length (a .count + 1) (pageText a) page-lines
+  page-length = lines-length (a .count + 1) (pageText a) (text-page .lines)
 
-  pub page-585 : length (pageText a) ≤ 585
-  page-585 = omega (arith, page-length, text-count-up-to t accepted)
-
-  -- the whole record is read back, and so what the sheet shows
-  pub page-read : awardIn (pageText a) ≡ a
-  page-read = award-back a (page-fits t accepted) (none-negative t accepted) (complete t accepted)
-
+  -- what is read is what the sheet shows
   pub columns-give-sheet : sheetText (awardIn (pageText a)) ≡ sheetText a
-  columns-give-sheet = ap sheetText page-read
+  columns-give-sheet = ap sheetText (text-page .read)
 
 -- 585 bytes hold whatever is printed, and with them no page is refused by 10
 pub page-prints-fit : (t : List ℕ) → length (pagePrints t) ≤ 585
-page-prints-fit t = printed-fits pageText 585 t (page-585 t) (omega arith)
+page-prints-fit t = printed-fits pageText 585 t (λ e. text-page t e .short) (omega arith)
 
 pub page-never-short : (t out : List ℕ) → 585 ≤ length out → (place : ℕ) → pageWritten t (length out) .verdict ≡ Refused OutputLength place → ⊥
-page-never-short t out enough = never-10 pageText 585 t (page-585 t) out enough
+page-never-short t out enough = never-10 pageText 585 t (λ e. text-page t e .short) out enough
 
 -- a page is refused exactly where a sheet is, each in an output that is long enough
 pub as-sheet : (t out other : List ℕ) → 585 ≤ length out → 600 ≤ length other
     → pageWritten t (length out) .verdict ≡ sheetWritten t (length other) .verdict
-as-sheet t out other h k = same-verdict pageText 585 t (page-585 t) out h ∙ sym (sheet-verdict t other k)
+as-sheet t out other h k = same-verdict pageText 585 t (λ e. text-page t e .short) out h ∙ sym (sheet-verdict t other k)
 
 -- the bytes that are written, as many as are answered, give the award again
 module _ (t out : List ℕ) (accepted : pageWritten t (length out) .verdict ≡ Accepted) where
@@ -60,4 +74,4 @@ module _ (t out : List ℕ) (accepted : pageWritten t (length out) .verdict ≡ 
   unfolding writtenAs outputAs writtenOf
   written-read =
       let page = pageText (clearText t .award) in
-      ap awardIn (text-written (clearText t .verdict) page out accepted) ∙ page-read t (accepted-before (clearText t .verdict) page out accepted)
+      ap awardIn (text-written (clearText t .verdict) page out accepted) ∙ text-page t (accepted-before (clearText t .verdict) page out accepted) .read

@@ -1,4 +1,4 @@
--- The rows of a cleared text's award: as many as it counts, and past them zeros and `none`. Assumes nothing.
+-- The rows of a cleared book's award: as many as it counts, and past them zeros and `none`. Assumes nothing.
 use Prim.Native.Nat.{ℕ, _≤_}
 use native.Mathlib.Omega.{arith}
 use mathlib.Core.List.{List}
@@ -13,7 +13,6 @@ use Rattle.book.specs.Entries.{BookEntries, bookEntries}
 use Rattle.supply.specs.Supply.{suppliesOf}
 use Rattle.divisions.proofs.Award.{as-many}
 use Rattle.award.specs.declared.Row.{Row}
-use Rattle.award.specs.declared.Award.{Award}
 use Rattle.award.specs.Award.{noRow}
 use Rattle.pagetext.proofs.ReadBack.{Complete}
 use Rattle.clearing.specs.declared.Clearing.{Clearing}
@@ -22,8 +21,6 @@ use Rattle.clearing.proofs.Made.{length-rows}
 use Rattle.awardtheorems.proofs.Answers.{Cleared, cleared}
 use Rattle.awardtheorems.proofs.Cleared.{award-of-book}
 use Rattle.awardtheorems.proofs.Counts.{few-bids, bids-counted}
-use Rattle.tender.specs.FromText.{clearText}
-use Rattle.endtoend.proofs.ClearedText.{of-records}
 
 module _ (book : Book) (held : length (book .bids) ≡ 8) (accepted : clearOf (bookEntries book) .verdict ≡ Accepted) where
   abbrev b : BookEntries
@@ -52,8 +49,5 @@ module _ (book : Book) (held : length (book .bids) ≡ 8) (accepted : clearOf (b
     past = ap (padded 8 noRow) (sym (take-count 8 (b .count) noRow listed (sym as-listed) few));
   }
 
-  book-complete : Complete (clearOf b .award)
-  book-complete = subst (λ (x : Clearing). Complete (x .award)) (sym (c .answer)) made-complete
-
-pub complete : (t : List ℕ) → clearText t .verdict ≡ Accepted → Complete (clearText t .award)
-complete t accepted = of-records t accepted (λ (b : BookEntries) (a : Award). Complete a) book-complete
+  pub complete : Complete (clearOf b .award)
+  complete = subst (λ (x : Clearing). Complete (x .award)) (sym (c .answer)) made-complete
