@@ -1,6 +1,6 @@
 // The spaces of a column, before what is shown in it.
 ghost use mathlib.Core.Path.{_≡_};
-ghost use Prim.Native.Nat.{_+_, _-_, _≤_};
+ghost use Prim.Native.Nat.{_-_, _≤_};
 ghost use lib.ListN.{replicate};
 ghost use Rattle.printer.specs.Written.{Put};
 use words::Word;

@@ -1,6 +1,5 @@
 // A line of text as data: an array of parts, put into a lent output by one function. A writer of texts says which parts a line has; it is
 // measured by putting it into an output that is too short. A place is bounded so that no sum wraps.
-ghost use mathlib.Core.Path.{_≡_};
 ghost use Prim.Native.Nat.{_+_, _^_, _≤_, _<_};
 ghost use Rattle.lists.specs.Joined.{joined};
 ghost use Rattle.printer.specs.Written.{Put};

@@ -1,6 +1,6 @@
 -- What change 1 of document 02 says of the page of an award: no column is too narrow, each line is 64 bytes and byte 10, and the columns,
 -- read as numbers, give the award again; 585 bytes hold it.
-use Prim.Native.Nat.{ℕ, _+_, _≤_}
+use Prim.Native.Nat.{_+_, _≤_}
 use mathlib.Core.Path.{_≡_}
 use lib.ListN.{length}
 use Rattle.award.specs.declared.Award.{Award}

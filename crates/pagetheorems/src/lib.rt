@@ -1,1 +1,1 @@
-// What holds of the page of every cleared text (proofs/); no code.
+// What holds of the page of every cleared book (proofs/); no code.
