@@ -23,9 +23,11 @@ FOLLOWS = "was not admitted"
 
 
 def first_error(log):
-    """The first error by itself, with the lines that belong to it; or, of a function whose proof the prover makes, what it says is not proved."""
+    """The first error by itself, with the lines that belong to it, as one line; or, of a function whose proof the prover makes, what it says
+    is not proved. The prover breaks a long line at any space."""
     found = re.finditer(r"^\S+: error: .*(?:\n {2}.*)*|^note: .*it is not proved that .*|^fn \S+: no proof: .*", log, re.M)
-    return next((error.group(0) for error in found if FOLLOWS not in error.group(0)), None)
+    errors = (" ".join(error.group(0).split()) for error in found)
+    return next((error for error in errors if FOLLOWS not in error), None)
 
 
 def fault_of(log):
