@@ -1,8 +1,8 @@
 // An award as a record: what each bidder sells, at what price, and what the mint samples.
 ghost use mathlib.Core.Path.{_≡_};
 ghost use Rattle.book.specs.Entries.{bidEntries};
+ghost use Rattle.book.specs.Accepted.{AcceptedBid};
 ghost use Rattle.supply.specs.Supply.{supplyOf, priceAt};
-ghost use Rattle.supply.specs.Asked.{Priceable};
 ghost use Rattle.award.specs.Award.{noRow, noAward, rowOf};
 use book::Bid;
 use money::Blanks;
@@ -63,7 +63,7 @@ pub fn no_award() -> Award
 
 // The price of a quantity that the bid offers; 0 where it does not offer it, which no award has.
 fn price_of(bid: Bid, quantity: Blanks) -> Cents
-    requires { ⌜ Priceable bid ⌝ }
+    requires { ⌜ AcceptedBid (bidEntries bid) ⌝ }
     ensures { λ r. ⌜ r .0 ≡ priceAt (supplyOf (bidEntries bid)) (quantity .0) ⌝ }
 {
     let offer = supply::price_at(bid, quantity);
@@ -75,7 +75,7 @@ fn price_of(bid: Bid, quantity: Blanks) -> Cents
 
 // The row of a bid of an accepted book.
 pub fn row_of(bid: Bid, quantity: Blanks, without: Total) -> Row
-    requires { ⌜ Priceable bid ⌝ }
+    requires { ⌜ AcceptedBid (bidEntries bid) ⌝ }
     ensures { λ r. ⌜ r ≡ rowOf (bidEntries bid) (quantity .0) without ⌝ }
 {
     let segment = supply::segment_number(bid, quantity);

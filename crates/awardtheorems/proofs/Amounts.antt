@@ -15,17 +15,17 @@ use Rattle.lists.proofs.All.{all-at, all-tested}
 use Rattle.lists.proofs.Slices.{take-most}
 use Rattle.lists.proofs.Removed.{length-removed, all-removed}
 use Rattle.refusal.specs.declared.Verdict.the-variants.{Accepted}
-use Rattle.book.specs.declared.Segment.{Segment}
 use Rattle.book.specs.declared.Book.{Book}
 use Rattle.book.specs.Entries.{BidEntries, BookEntries, bidEntries, bookEntries}
 use Rattle.book.specs.Rules.{bookVerdict}
 use Rattle.book.specs.Accepted.{AcceptedBid}
 use Rattle.book.proofs.Records.{noBid}
-use Rattle.book.proofs.InRange.{mostBlanks, mostCents}
 use Rattle.book.proofs.Bids.{entry-at}
 use Rattle.book.proofs.Accepted.{book-accepted, all-accepted, accepted-at}
-use Rattle.supply.specs.Supply.{segment0, supplyOf, suppliesOf, on, offers, numberFrom, segmentNumber}
-use Rattle.supply.proofs.Offers.{supply-small}
+use Rattle.supply.specs.Supply.{supplyOf, suppliesOf, offers}
+use Rattle.supply.specs.Sound.{mostBlanks}
+use Rattle.supply.proofs.Supply.{number-few}
+use Rattle.supply.proofs.Accepted.{mostCents, supply-small}
 use Rattle.sampling.specs.declared.Band.{Band}
 use Rattle.sampling.specs.Sampling.{printedTable, sampleAbove, sampleOf}
 use Rattle.divisions.specs.Division.{Allocation}
@@ -45,13 +45,6 @@ use Rattle.awardtheorems.proofs.Cleared.{award-of-book, no-other-cheape
 either-small : (t : Bool) (m n most : ℕ) → m ≤ most → n ≤ most → cond t m n ≤ most
 either-small true m n most h k = h
 either-small false m n most h k = k
-
--- where the first segment has the number n, the last has n and as many more as follow the first
-number-small : (n : ℕ) (s : Segment) (ss : List Segment) (r : ℕ) → numberFrom n (s ∷ ss) r ≤ n + length ss
-unfolding numberFrom
-number-small n s [] r = either-small (on s r) n 0 (n + 0) (omega arith) (omega arith)
-number-small n s (next ∷ ss) r =
-    either-small (on s r) n (numberFrom (n + 1) (next ∷ ss) r) (n + length (next ∷ ss)) (omega arith) (omega (arith, number-small (n + 1) next ss r))
 
 sample-small : (most before : ℕ) (bands : List Band) (q : ℕ) → All (λ (b : Band). leb (b .sample) most ≡ true) bands → sampleAbove before bands q ≤ most
 unfolding sampleAbove
@@ -88,11 +81,11 @@ pub record RowUpTo (row : Row) : Type 0 where
 
 row-up-to : (b : BidEntries) (r : ℕ) (t : Total) → AcceptedBid b → length (b .segments) ≤ 6 → offers (supplyOf b) r ≡ true → TotalUpTo mostTotal t
     → RowUpTo (rowOf b r t)
-unfolding rowOf segmentNumber
+unfolding rowOf
 row-up-to b r t a few o total = record {
   bidder = a .bidder-high;
-  segment = omega (arith, number-small 0 segment0 (b .segments) r);
-  quantity = supply-small b (a .ranges) r o .quantity;
+  segment = omega (arith, number-few b r);
+  quantity = supply-small b a r o .quantity;
   price = price-up-to b r a o;
   sample = printed-small r;
   without = total;

@@ -22,7 +22,7 @@ use Rattle.divisions.specs.Division.{Allocation}
 use Rattle.divisions.specs.Award.{Priced, awardOfBook}
 use Rattle.divisions.specs.IsAward.{insideCount}
 use Rattle.divisions.proofs.Award.{as-many, award-is, no-award-iff}
-use Rattle.choices.proofs.Accepted.{sound-supplies}
+use Rattle.supply.proofs.Accepted.{sound-supplies}
 use Rattle.choices.proofs.OneInside.{at-most-one-inside}
 use Rattle.award.specs.declared.Total.the-variants.{Amount, Nothing}
 use Rattle.award.specs.declared.Row.{Row}

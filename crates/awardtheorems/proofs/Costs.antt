@@ -12,15 +12,13 @@ use Rattle.book.specs.declared.Segment.{Segment}
 use Rattle.book.specs.Entries.{BidEntries, BookEntries}
 use Rattle.book.specs.Rules.{priceOn}
 use Rattle.book.specs.Accepted.{AcceptedBid}
-use Rattle.book.proofs.InRange.{mostCents}
 use Rattle.supply.specs.Supply.{supplyOf, suppliesOf, on, offers, priceAt}
 use Rattle.supply.specs.Allocation.{costOf}
 use Rattle.supply.proofs.OneSegment.{on-low}
-use Rattle.supply.proofs.Offers.{supply-small}
+use Rattle.supply.specs.Sound.{SoundSegment}
+use Rattle.supply.proofs.Accepted.{mostCents, sound-supply, supply-small}
 use Rattle.divisions.specs.Division.{Allocation}
 use Rattle.divisions.specs.Award.{Priced}
-use Rattle.choices.specs.Sound.{SoundSegment}
-use Rattle.choices.proofs.Accepted.{sound-supply}
 use Rattle.choices.proofs.Fill.{base}
 use Rattle.choices.proofs.Placed.{price-on}
 use Rattle.awardtheorems.specs.OfBook.{IsAwardOf}
@@ -61,7 +59,7 @@ pub record UpTo (most : ℕ) (z : ℤ) : Type 0 where
 pub price-up-to : (b : BidEntries) (r : ℕ) → AcceptedBid b → offers (supplyOf b) r ≡ true → UpTo mostCents (priceAt (supplyOf b) r)
 price-up-to b r a o = record {
   not-negative = offered-from-zero (supplyOf b) r (sound-supply b a .each) o;
-  size = supply-small b (a .ranges) r o .price;
+  size = supply-small b a r o .price;
 }
 
 cost-up-to : (bids : List BidEntries) (rs : List ℕ) → All AcceptedBid bids → Allocation (suppliesOf bids) rs

@@ -1,6 +1,5 @@
--- What rule 5 tells of a segment, and that its prices then fit. Assumes nothing.
-use Prim.Native.Nat.{ℕ, _*_, _≤_}
-use native.Mathlib.Nat.{mul-le-mul}
+-- What rule 5 tells of a segment, and that the price at its start then fits. Assumes nothing.
+use Prim.Native.Nat.{ℕ, _≤_}
 use native.Mathlib.Omega.{arith}
 use mathlib.Core.Bool.{true, _&&_}
 use mathlib.Core.Path.{_≡_}
@@ -10,9 +9,9 @@ use lib.IntN.{pos, negℤ, natAbs}
 use lib.Signed.{leZ}
 use Rattle.lists.proofs.Tests.{both-left, both-right}
 use Rattle.money.specs.Price.{PriceFits}
-use Rattle.money.proofs.Bounds.{price-size, small-fits, between-size}
+use Rattle.money.proofs.Bounds as bounds
 use Rattle.book.specs.declared.Segment.{Segment}
-use Rattle.book.specs.Rules.{within, segmentInRange, priceOn}
+use Rattle.book.specs.Rules.{within, segmentInRange}
 
 pub record InRange (s : Segment) : Type 0 where
   pub start-low : 1 ≤ s .start .0
@@ -47,23 +46,10 @@ in-range s e =
       end-low = within-low _ _ _ (both-right start end ends);
       end-high = within-high _ _ _ (both-right start end ends);
       unit-high = within-high _ _ _ (both-right (start && end) unit units);
-      fixed-size = between-size 1000000000000 (s .fixed .0) (both-left above below z) (both-right above below z);
+      fixed-size = bounds.between-size 1000000000000 (s .fixed .0) (both-left above below z) (both-right above below z);
     }
 
--- the most that a bid can sell, and a bound of its price
-abbrev pub mostBlanks : ℕ
-mostBlanks = 1000000
-
-abbrev pub mostCents : ℕ
-mostCents = 2000000000000
-
-module _ (s : Segment) (r : ℕ) (unit-high : s .unit .0 ≤ 1000000) (fixed-size : natAbs (s .fixed .0) ≤ 1000000000000) (few : r ≤ mostBlanks) where
-  product-small : s .unit .0 * r ≤ 1000000000000
-  product-small = mul-le-mul unit-high few
-
-  pub price-small : natAbs (priceOn s r) ≤ mostCents
-  price-small = omega (arith, price-size (s .unit .0) r (s .fixed .0), product-small, fixed-size)
-
-  -- what the price rule asks
-  pub price-fits : PriceFits (s .unit .0) r (s .fixed .0)
-  price-fits = record { product = omega (arith, product-small); price = small-fits _ (omega (arith, price-small)) }
+-- what the price rule asks at the start
+pub price-fits : (s : Segment) → InRange s → PriceFits (s .unit .0) (s .start .0) (s .fixed .0)
+price-fits s range =
+    bounds.price-fits _ (s .start .0) _ 1000000 1000000 1000000000000 (range .unit-high) (range .start-high) (range .fixed-size) (omega arith)

@@ -11,8 +11,8 @@ use Rattle.lists.specs.All.{All}
 use Rattle.book.specs.declared.Segment.{Segment}
 use Rattle.book.specs.Rules.{priceOn}
 use Rattle.supply.specs.Allocation.{bought}
+use Rattle.supply.specs.Sound.{SoundSegment}
 use Rattle.choices.specs.Choice.{width, placed}
-use Rattle.choices.specs.Sound.{SoundSegment}
 use Rattle.choices.proofs.Fill.{base, cost, Box}
 use Rattle.choices.proofs.Placed.{price-on}
 use Rattle.charges.specs.Charge.{million, chargeAt, charge, charges}

@@ -10,17 +10,17 @@ use lib.ListN.{length}
 use Rattle.lists.specs.All.{All}
 use Rattle.book.specs.declared.Segment.{Segment}
 use Rattle.book.specs.Rules.{priceOn}
-use Rattle.book.proofs.InRange.{mostCents, price-small}
+use Rattle.supply.specs.Sound.{priceLimit, SoundSegment}
+use Rattle.supply.proofs.Sound.{price-small}
 use Rattle.choices.specs.Choice.{starts, ends}
-use Rattle.choices.specs.Sound.{SoundSegment}
 use Rattle.charges.specs.declared.Prices.{Prices}
 use Rattle.charges.specs.declared.Sums.{Sums}
 use Rattle.charges.specs.Charge.{million, highest, mostCharge, chargeAt, charge, charges}
 use Rattle.charges.specs.Records.{Capped, ChargeableAt, SumsOf, UpTo, Small, noSums, sumsOn, sumsWith}
 
 module _ (s : Segment) (r l : ℕ) (asked : ChargeableAt s r l) where
-  pub price-size : natAbs (priceOn s r) ≤ mostCents
-  price-size = price-small s r (asked .sound .unit-high) (asked .sound .fixed-size) (asked .few)
+  pub price-size : natAbs (priceOn s r) ≤ priceLimit
+  price-size = price-small s r (asked .sound) (asked .few)
 
   pub rest-size : l * (million - r) ≤ highest * million
   rest-size = let short : million - r ≤ million = omega arith in mul-le-mul (asked .capped) short

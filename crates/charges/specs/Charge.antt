@@ -6,10 +6,11 @@ use mathlib.Core.List.{List, [], _∷_}
 use lib.IntN.{natAbs}
 use Rattle.book.specs.declared.Segment.{Segment}
 use Rattle.book.specs.Rules.{priceOn}
+use Rattle.supply.specs.Sound.{mostBlanks, unitLimit, priceLimit}
 
--- the most that a bid can sell
+-- a million, the most that a bid can sell
 abbrev pub million : ℕ
-million = 1000000
+million = mostBlanks
 
 -- r blanks on a segment, by the price l; a price of an accepted book is not negative
 unfoldable pub chargeAt : ℕ → Segment → ℕ → ℕ
@@ -24,10 +25,10 @@ abbrev pub charges : ℕ → ℕ → List Segment → ℕ
 charges demand l [] = 0
 charges demand l (s ∷ c) = charge demand l s + charges demand l c
 
--- the highest price of a blank, 2 ^ 30, so that no charge wraps
+-- the highest price of a blank: no unit price is above it, and no charge wraps
 abbrev pub highest : ℕ
-highest = 1073741824
+highest = unitLimit
 
 -- and so the most that a segment of an accepted bid is charged
 abbrev pub mostCharge : ℕ
-mostCharge = 1075741824000000
+mostCharge = priceLimit + highest * million

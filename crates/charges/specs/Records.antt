@@ -3,8 +3,8 @@ use Prim.Native.Nat.{ℕ, _+_, _*_, _^_, _≤_}
 use mathlib.Core.List.{List}
 use mathlib.Core.Path.{_≡_}
 use Rattle.book.specs.declared.Segment.{Segment}
+use Rattle.supply.specs.Sound.{SoundSegment}
 use Rattle.choices.specs.Choice.{starts, ends}
-use Rattle.choices.specs.Sound.{SoundSegment}
 use Rattle.charges.specs.declared.Prices.{Prices}
 use Rattle.charges.specs.declared.Sums.{Sums}
 use Rattle.charges.specs.Charge.{million, highest, mostCharge, charge, charges}

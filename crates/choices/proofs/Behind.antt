@@ -10,10 +10,10 @@ use mathlib.Core.Path.{_≡_}
 use lib.ListN.{length, take}
 use Rattle.lists.specs.All.{All}
 use Rattle.book.specs.declared.Segment.{Segment}
+use Rattle.supply.specs.Sound.{SoundSegment}
 use Rattle.divisions.specs.Award.{givesMore}
 use Rattle.divisions.proofs.Order.{More, more-here, more-later, more-cases}
 use Rattle.choices.specs.Choice.{width, placed, endsThen, endsInOrder}
-use Rattle.choices.specs.Sound.{SoundSegment}
 use Rattle.choices.proofs.Fill.{Box}
 
 -- at most es, as far as there are es

@@ -13,12 +13,12 @@ use Rattle.book.specs.declared.Segment.{Segment}
 use Rattle.book.proofs.InRange.{within-low, within-high}
 use Rattle.supply.specs.Supply.{on, offers}
 use Rattle.supply.specs.Allocation.{costOf}
+use Rattle.supply.specs.Sound.{SoundSegment}
+use Rattle.supply.proofs.Sound.{SoundSupply}
 use Rattle.divisions.specs.Division.{Allocation}
 use Rattle.divisions.specs.IsAward.{insideCount}
 use Rattle.choices.specs.Choice.{width, placed}
 use Rattle.choices.specs.Chosen.{Chosen}
-use Rattle.choices.specs.Sound.{SoundSegment}
-use Rattle.choices.proofs.Sound.{SoundSupply}
 use Rattle.choices.proofs.Fill.{cost, Box}
 use Rattle.choices.proofs.Certificate.{insides}
 use Rattle.choices.proofs.Placed.{price-on}

@@ -11,13 +11,13 @@ use Rattle.lists.specs.All.{All}
 use Rattle.lists.proofs.Members.{all-in}
 use Rattle.book.specs.declared.Segment.{Segment}
 use Rattle.supply.specs.Allocation.{bought}
+use Rattle.supply.specs.Sound.{SoundSegment}
+use Rattle.supply.proofs.Sound.{SoundSupply}
 use Rattle.divisions.specs.Award.{Priced}
 use Rattle.divisions.proofs.Order.{better-cost, better-tie}
 use Rattle.divisions.proofs.IsBest.{NotBetter}
 use Rattle.choices.specs.Choice.{starts, fits, placed, extrasOf, filled}
 use Rattle.choices.specs.Leaf.{Leaf}
-use Rattle.choices.specs.Sound.{SoundSegment}
-use Rattle.choices.proofs.Sound.{SoundSupply}
 use Rattle.choices.proofs.Fill.{cost, Box, Wins, extras-bought, extras-box, box-widths}
 use Rattle.choices.proofs.Certificate.{extras-cert, insides, one-inside}
 use Rattle.choices.proofs.Optimal.{cert-wins}

@@ -9,13 +9,13 @@ use lib.IntN.{pos}
 use Rattle.lists.specs.All.{All}
 use Rattle.book.specs.declared.Segment.{Segment}
 use Rattle.supply.specs.Allocation.{bought, costOf}
+use Rattle.supply.proofs.Sound.{SoundSupply}
 use Rattle.divisions.specs.Award.{Priced, awardOf}
 use Rattle.divisions.proofs.IsBest.{IsBest, NotBetter, best-of, best-iff, best-unique}
 use Rattle.divisions.proofs.Award.{PricedDivision, award-best}
 use Rattle.choices.specs.Choice.{placed}
 use Rattle.choices.specs.Leaf.{Leaf}
 use Rattle.choices.specs.Search.{searched}
-use Rattle.choices.proofs.Sound.{SoundSupply}
 use Rattle.choices.proofs.Fill.{cost}
 use Rattle.choices.proofs.Leaves.{search-best}
 use Rattle.choices.specs.Chosen.{Chosen}

@@ -1,8 +1,6 @@
-pub mod Sound
 pub mod Fill
 pub mod Certificate
 pub mod Optimal
-pub mod Accepted
 pub mod Placed
 pub mod Behind
 pub mod Leaves

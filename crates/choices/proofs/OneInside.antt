@@ -6,11 +6,11 @@ use mathlib.Core.Option.{some}
 use mathlib.Core.Path.{_≡_, ap, _∙_, subst}
 use Rattle.lists.specs.All.{All}
 use Rattle.book.specs.declared.Segment.{Segment}
+use Rattle.supply.proofs.Sound.{SoundSupply}
 use Rattle.divisions.specs.Award.{Priced, awardOf}
 use Rattle.divisions.specs.IsAward.{insideCount}
 use Rattle.divisions.proofs.IsBest.{IsBest}
 use Rattle.choices.specs.Leaf.{Leaf}
-use Rattle.choices.proofs.Sound.{SoundSupply}
 use Rattle.choices.proofs.Chosen.{chosen-inside}
 use Rattle.choices.proofs.Divides.{divides}
 use Rattle.choices.proofs.Finds.{found-best, finds}

@@ -15,10 +15,10 @@ use Rattle.money.specs.Price.{priceOf}
 use Rattle.book.specs.declared.Segment.{Segment}
 use Rattle.book.specs.Rules.{priceOn}
 use Rattle.supply.specs.Allocation.{bought}
+use Rattle.supply.specs.Sound.{SoundSegment}
 use Rattle.divisions.specs.Award.{givesMore}
 use Rattle.divisions.proofs.Order.{more-here, more-later}
 use Rattle.choices.specs.Choice.{starts, ends, fits, width, placed, costWith}
-use Rattle.choices.specs.Sound.{SoundSegment}
 use Rattle.choices.proofs.Fill.{base, widths, cost, Box, Less}
 
 -- Prices, which are not negative.

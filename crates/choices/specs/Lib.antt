@@ -2,4 +2,3 @@ pub mod Choice
 pub mod Chosen
 pub mod Leaf
 pub mod Search
-pub mod Sound

@@ -9,9 +9,9 @@ use Rattle.lists.proofs.Tests.{same-or-not}
 use Rattle.book.specs.declared.Segment.{Segment}
 use Rattle.supply.specs.Supply.{segment0}
 use Rattle.supply.specs.Allocation.{bought}
+use Rattle.supply.specs.Sound.{SoundSegment}
 use Rattle.choices.specs.Choice.{width, placed}
 use Rattle.choices.specs.Chosen.{Chosen}
-use Rattle.choices.specs.Sound.{SoundSegment}
 use Rattle.charges.specs.declared.Prices.{Prices}
 use Rattle.charges.specs.declared.Sums.{Sums}
 use Rattle.charges.specs.Charge.{charges}

@@ -10,6 +10,7 @@ use Rattle.book.specs.Entries.{bidEntries}
 use Rattle.book.specs.Accepted.{AcceptedBid}
 use Rattle.charges.specs.declared.Prices.{Prices}
 use Rattle.charges.specs.declared.Sums.{Sums}
+use Rattle.charges.specs.Charge.{million}
 use Rattle.charges.specs.Records.{Capped, UpTo}
 use Rattle.completions.specs.Classes.{classAt, Admits, Has, Covers, Graded}
 
@@ -48,7 +49,7 @@ pub record Extendable (table : List ℕ) (at : ℕ) (more : Sums) : Type 0 where
   pub bidder : at < 8
   pub graded : Graded table
   pub one : UpTo 1 more
-  pub counted : more .high .0 ≤ 1000000
+  pub counted : more .high .0 ≤ million
 
 -- what `with_class` asks besides: a class of the bidders after `at`
 pub record ClassExtendable (table : List ℕ) (at : ℕ) (class more : Sums) : Type 0 where

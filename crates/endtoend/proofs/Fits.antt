@@ -17,7 +17,7 @@ use Rattle.refusal.specs.declared.Rule.the-variants.{OutputLength}
 use Rattle.refusal.specs.declared.Verdict.the-variants.{Accepted, Refused}
 use Rattle.book.specs.declared.Book.{Book}
 use Rattle.book.specs.Entries.{BookEntries, bookEntries}
-use Rattle.book.proofs.InRange.{mostBlanks}
+use Rattle.supply.specs.Sound.{mostBlanks}
 use Rattle.book.proofs.Accepted.{book-accepted}
 use Rattle.award.specs.declared.Total.{Total}
 use Rattle.award.specs.declared.Total.the-variants.{Amount, Nothing}

@@ -11,8 +11,8 @@ use Rattle.book.specs.Accepted.{AcceptedBid}
 use Rattle.book.proofs.Records.{noBid}
 use Rattle.book.proofs.Accepted.{accepted-at}
 use Rattle.supply.specs.Supply.{segment0, supplyOf}
-use Rattle.choices.specs.Sound.{SoundSegment}
-use Rattle.choices.proofs.Accepted.{sound-segment-at}
+use Rattle.supply.specs.Sound.{SoundSegment}
+use Rattle.supply.proofs.Accepted.{sound-segment-at}
 use Rattle.hints.specs.Asked.{HintedBid, HintedBookBy}
 
 -- each bid that the record holds

@@ -66,7 +66,7 @@ pub fn balance(book: Book) -> CentsPerBlank
     ensures { λ r. ⌜ r .0 ≤ highest ⌝ }
 {
     let mut low: u64 = 0;
-    let mut high: u64 = 1073741824;
+    let mut high: u64 = 4294967296;
     while low < high {
         let middle = low + (high - low) / 2;
         if sold(book, CentsPerBlank(middle)) < book.demand.0 {

@@ -17,6 +17,9 @@ use Rattle.book.specs.Entries.{BidEntries}
 use Rattle.book.specs.Accepted.{AcceptedBid}
 use Rattle.supply.specs.Supply.{supplyOf, suppliesOf}
 use Rattle.supply.specs.Allocation.{bought}
+use Rattle.supply.specs.Sound.{SoundSegment}
+use Rattle.supply.proofs.Sound.{SoundSupply}
+use Rattle.supply.proofs.Accepted.{sound-supplies}
 use Rattle.divisions.specs.Award.{Priced, givesMore, better}
 use Rattle.divisions.proofs.Order.{better-cost, better-tie}
 use Rattle.divisions.proofs.Signed.{order}
@@ -25,9 +28,6 @@ use Rattle.choices.specs.Choice.{placed, endsInOrder}
 use Rattle.choices.specs.Chosen.{Chosen}
 use Rattle.choices.specs.Leaf.{Leaf}
 use Rattle.choices.specs.Search.{search}
-use Rattle.choices.specs.Sound.{SoundSegment}
-use Rattle.choices.proofs.Sound.{SoundSupply}
-use Rattle.choices.proofs.Accepted.{sound-supplies}
 use Rattle.choices.proofs.Fill.{cost, box-widths}
 use Rattle.choices.proofs.Placed.{placed-bought, ends-widths}
 use Rattle.choices.proofs.Chosen.{chosen-box, chosen-each, chosen-length}

@@ -11,10 +11,10 @@ use Rattle.book.specs.declared.Segment.{Segment}
 use Rattle.book.specs.Entries.{BidEntries}
 use Rattle.book.specs.Accepted.{AcceptedBid}
 use Rattle.supply.specs.Supply.{suppliesOf}
+use Rattle.supply.specs.Sound.{SoundSegment}
 use Rattle.divisions.specs.Award.{givesMore}
 use Rattle.choices.specs.Choice.{endsInOrder}
 use Rattle.choices.specs.Search.{search}
-use Rattle.choices.specs.Sound.{SoundSegment}
 use Rattle.comparison.specs.declared.MaybeDivision.{MaybeDivision}
 use Rattle.comparison.specs.Records.{blanksIn, found}
 use Rattle.charges.specs.declared.Prices.{Prices}

@@ -18,16 +18,15 @@ use Rattle.money.specs.declared.Blanks.{Blanks}
 use Rattle.money.proofs.Bounds.{natAbs-plus, small-fits}
 use Rattle.book.specs.declared.Segment.{Segment}
 use Rattle.book.specs.Rules.{priceOn}
-use Rattle.book.proofs.InRange.{mostCents}
 use Rattle.supply.specs.Supply.{segment0}
+use Rattle.supply.specs.Sound.{mostBlanks, priceLimit, SoundSegment}
+use Rattle.supply.proofs.Sound.{price-small}
 use Rattle.divisions.specs.Award.{Priced}
 use Rattle.choices.specs.Choice.{starts, ends, fits, width, extra, extras, placed, costWith, filled}
-use Rattle.choices.specs.Sound.{SoundSegment}
 use Rattle.comparison.specs.Records.{blanksIn}
 use Rattle.meritorder.specs.declared.Choice.{Choice}
 use Rattle.meritorder.specs.Records.{segmentAt, firstSegments, chosen, Sound}
 use Rattle.meritorder.proofs.Sums.{sound-at}
-use Rattle.meritorder.proofs.Prices.{price-small}
 
 -- whether a choice fits, from the two sums
 module _ (demand : ℕ) (c : List Segment) (low : ℕ) (starts-are : low ≡ starts c) where
@@ -58,7 +57,7 @@ givenFrom left c = placed c (extras left c)
 pub record Filling (c : Choice) (all left : ℕ) (quantities : List Blanks) (total : ℤ) (i : ℕ) : Type 0 where
   pub within : i ≤ c .count
   pub held : length quantities ≡ 8
-  pub size : natAbs total + mostCents * i ≤ mostCents * c .count
+  pub size : natAbs total + priceLimit * i ≤ priceLimit * c .count
   pub cost : total +ℤ costFrom left (firstSegments c i) ≡ costFrom all (chosen c)
   pub given : reverseAux (givenFrom left (firstSegments c i)) (slice i (c .count) (blanksIn quantities)) ≡ reverse (givenFrom all (chosen c))
 
@@ -90,10 +89,10 @@ module _ {c : Choice} {all left : ℕ} {quantities : List Blanks} {total : ℤ} 
     within-end x is-extra = rw is-extra (extra-end left this earlier (sound-this .order))
 
     module _ (x : ℕ) (is-extra : x ≡ extra left this earlier) (p : ℤ) (is-price : p ≡ priceOn this (this .start .0 + x)) where
-      total-small : natAbs (total +ℤ p) + mostCents * k ≤ mostCents * c .count
+      total-small : natAbs (total +ℤ p) + priceLimit * k ≤ priceLimit * c .count
       total-small =
-          let few-blanks = within-end x is-extra in
-          let price-high : natAbs p ≤ mostCents = rw is-price (price-small this (this .start .0 + x) sound-this few-blanks) in
+          let few-blanks : this .start .0 + x ≤ mostBlanks = omega (arith, within-end x is-extra, sound-this .end-high) in
+          let price-high : natAbs p ≤ priceLimit = rw is-price (price-small this (this .start .0 + x) sound-this few-blanks) in
           omega (arith, natAbs-plus total p, filling .size)
 
       pub total-fits : SFits w64 (total +ℤ p)

@@ -10,8 +10,8 @@ use lib.Dec.{leb}
 use Rattle.lists.proofs.Latest.{latest-none, latest-next, latest-at}
 use Rattle.book.specs.declared.Segment.{Segment}
 use Rattle.supply.specs.Supply.{segment0}
+use Rattle.supply.specs.Sound.{mostBlanks, SoundSegment}
 use Rattle.choices.specs.Choice.{starts, ends, width, widthAt, cheaper}
-use Rattle.choices.specs.Sound.{SoundSegment}
 use Rattle.meritorder.specs.declared.Choice.{Choice}
 use Rattle.meritorder.specs.Records.{segmentAt, firstSegments, Sound, HasFirst}
 
@@ -22,11 +22,11 @@ sound-at {c} sound i h = latest-at segment0 SoundSegment (c .segments) (c .count
 pub has-all : {c : Choice} → Sound c → HasFirst c (c .count)
 has-all sound = record { sound = sound; within = omega arith }
 
--- f adds up g of every segment, which is at most a million
+-- f adds up g of every segment, which is at most what a bid can sell
 pub record Adds (f : List Segment → ℕ) (g : Segment → ℕ) : Type 0 where
   pub none : f [] ≡ 0
   pub next : (s : Segment) (c : List Segment) → f (s ∷ c) ≡ g s + f c
-  pub high : (s : Segment) → SoundSegment s → g s ≤ 1000000
+  pub high : (s : Segment) → SoundSegment s → g s ≤ mostBlanks
 
 pub adds-starts : Adds starts (λ s. s .start .0)
 adds-starts = record { none = refl; next = λ s c. refl; high = λ s sound. omega (arith, sound .order, sound .end-high) }
@@ -42,7 +42,7 @@ width-counts unit s h = rw (le-leb (s .unit .0) unit h)
 pub dearer : (unit : ℕ) (s : Segment) → unit < s .unit .0 → widthAt unit s ≡ 0
 dearer unit s h = rw (lt-leb (s .unit .0) unit h)
 
-width-high : (s : Segment) → SoundSegment s → (counts : Bool) → cond counts (width s) 0 ≤ 1000000
+width-high : (s : Segment) → SoundSegment s → (counts : Bool) → cond counts (width s) 0 ≤ mostBlanks
 unfolding width
 width-high s sound true = omega (arith, sound .end-high)
 width-high s sound false = omega arith
@@ -53,7 +53,7 @@ adds-cheaper unit = record { none = refl; next = λ s c. refl; high = λ s sound
 -- `sum` is f of the first i of n segments
 pub record Summed (f : List Segment → ℕ) (c : Choice) (n i sum : ℕ) : Type 0 where
   pub within : i ≤ n
-  pub size : sum ≤ 1000000 * i
+  pub size : sum ≤ mostBlanks * i
   pub value : sum ≡ f (firstSegments c i)
 
 pub summed-none : {f : List Segment → ℕ} {g : Segment → ℕ} → Adds f g → (c : Choice) (n : ℕ) → Summed f c n 0 0
@@ -69,7 +69,7 @@ summed-all {f} {c} {n} {i} summed h = let e : i ≡ n = omega (arith, summed .wi
 -- a turn adds that of the next segment
 module _ {f : List Segment → ℕ} {g : Segment → ℕ} (adds : Adds f g) {c : Choice} {n i sum : ℕ} (summed : Summed f c n i sum)
     (has : HasFirst c n) (further : i < n) where
-  little : g (segmentAt c i) ≤ 1000000
+  little : g (segmentAt c i) ≤ mostBlanks
   little = adds .high (segmentAt c i) (sound-at (has .sound) i (omega (arith, has .within)))
 
   pub sum-small : sum + g (segmentAt c i) ≤ 8000000

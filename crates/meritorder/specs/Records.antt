@@ -8,8 +8,8 @@ use Rattle.lists.specs.All.{All}
 use Rattle.lists.specs.Latest.{latest}
 use Rattle.book.specs.declared.Segment.{Segment}
 use Rattle.supply.specs.Supply.{segment0}
+use Rattle.supply.specs.Sound.{SoundSegment}
 use Rattle.choices.specs.Choice.{fits}
-use Rattle.choices.specs.Sound.{SoundSegment}
 use Rattle.meritorder.specs.declared.Choice.{Choice}
 
 -- the segment of bidder i; segment 0 stands past the end of the record

@@ -12,7 +12,7 @@ use Rattle.forms.proofs.Money.{money-below}
 use Rattle.refusal.specs.declared.Verdict.the-variants.{Accepted}
 use Rattle.book.specs.declared.Book.{Book}
 use Rattle.book.specs.Entries.{bookEntries}
-use Rattle.book.proofs.InRange.{mostCents}
+use Rattle.supply.proofs.Accepted.{mostCents}
 use Rattle.award.specs.declared.Total.{Total}
 use Rattle.award.specs.declared.Total.the-variants.{Amount, Nothing}
 use Rattle.award.specs.declared.Row.{Row}

@@ -14,8 +14,8 @@ use Rattle.book.specs.Entries.{BidEntries, bookEntries}
 use Rattle.book.specs.Accepted.{AcceptedBid}
 use Rattle.book.proofs.Bids.{length-entries}
 use Rattle.supply.specs.Supply.{segment0, supplyOf, suppliesOf}
+use Rattle.supply.specs.Sound.{SoundSegment}
 use Rattle.choices.specs.Search.{search}
-use Rattle.choices.specs.Sound.{SoundSegment}
 use Rattle.comparison.specs.declared.MaybeDivision.{MaybeDivision}
 use Rattle.comparison.specs.Records.{found}
 use Rattle.meritorder.specs.declared.Choice.{Choice}

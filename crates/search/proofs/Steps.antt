@@ -17,11 +17,11 @@ use Rattle.book.proofs.Records.{noBid}
 use Rattle.book.proofs.Accepted.{accepted-at}
 use Rattle.supply.specs.Supply.{segment0, supplyOf, suppliesOf}
 use Rattle.supply.proofs.Supplies.{supplies-done, supplies-next}
+use Rattle.supply.specs.Sound.{SoundSegment}
+use Rattle.supply.proofs.Accepted.{sound-segment-at}
 use Rattle.divisions.specs.Award.{Priced, pick}
 use Rattle.choices.specs.Choice.{fits, filled}
 use Rattle.choices.specs.Search.{each, leaf, search}
-use Rattle.choices.specs.Sound.{SoundSegment}
-use Rattle.choices.proofs.Accepted.{sound-segment-at}
 use Rattle.comparison.specs.declared.MaybeDivision.{MaybeDivision}
 use Rattle.comparison.specs.Records.{found}
 use Rattle.meritorder.specs.declared.Choice.{Choice}

@@ -7,8 +7,8 @@ use Rattle.book.specs.declared.Book.{Book}
 use Rattle.book.specs.Entries.{BookEntries, bookEntries}
 use Rattle.book.specs.Accepted.{AcceptedBid}
 use Rattle.supply.specs.Supply.{suppliesOf}
+use Rattle.supply.specs.Sound.{SoundSegment}
 use Rattle.choices.specs.Leaf.{Started}
-use Rattle.choices.specs.Sound.{SoundSegment}
 use Rattle.comparison.specs.declared.MaybeDivision.{MaybeDivision}
 use Rattle.comparison.specs.Records.{found}
 use Rattle.meritorder.specs.declared.Choice.{Choice}

@@ -17,13 +17,13 @@ use Rattle.book.specs.declared.Book.{Book}
 use Rattle.book.specs.Entries.{BidEntries, bidEntries, bookEntries}
 use Rattle.book.specs.Rules.{bookVerdict}
 use Rattle.book.proofs.Records.{noBid}
-use Rattle.book.proofs.InRange.{mostBlanks, mostCents}
 use Rattle.book.proofs.Bids.{entriesFrom, entries-next, entries-done}
 use Rattle.refusal.specs.declared.Rule.the-variants.{SplitQuantity}
 use Rattle.refusal.specs.declared.Verdict.the-variants.{Accepted, Refused}
 use Rattle.supply.specs.Supply.{supplyOf, suppliesOf, offers, priceAt}
 use Rattle.supply.specs.Allocation.{bought, costOf}
-use Rattle.supply.proofs.Offers.{Small}
+use Rattle.supply.specs.Sound.{mostBlanks}
+use Rattle.supply.proofs.Accepted.{mostCents, Small}
 use Rattle.split.specs.Split.{quantitiesVerdict, splitOf, refusedSplit}
 use Rattle.split.proofs.Steps.{refused-split, book-passed, split-done, split-long, split-short, split-off, split-next, cost-next, total-next}
 

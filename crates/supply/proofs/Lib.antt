@@ -1,5 +1,7 @@
 pub mod Places
 pub mod Offers
 pub mod OneSegment
-pub mod Numbers
+pub mod Supply
 pub mod Supplies
+pub mod Sound
+pub mod Accepted

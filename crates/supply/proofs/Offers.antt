@@ -1,25 +1,19 @@
 -- A supply function segment by segment, and what an offer tells. Assumes nothing.
-use Prim.Native.Nat.{ℕ, zero, suc, _≤_, _<_}
-use native.Mathlib.Nat.{le-of-suc-le-suc, not-suc-le-zero}
+use Prim.Native.Nat.{ℕ, zero, suc}
+use native.Mathlib.Nat.{not-suc-le-zero}
 use native.Mathlib.Omega.{arith}
 use mathlib.Core.Bool.{Bool, true, false, cond}
 use mathlib.Core.List.{List, [], _∷_}
 use mathlib.Core.Path.{_≡_, refl, ap}
-use lib.IntN.{natAbs}
-use lib.ListN.{length, getD}
-use Rattle.lists.specs.Every.{every}
-use Rattle.lists.proofs.Everywhere.{every-at}
+use lib.ListN.{getD}
 use Rattle.money.specs.declared.Cents.{Cents}
 use Rattle.book.specs.declared.Segment.{Segment}
-use Rattle.book.specs.Entries.{BidEntries}
-use Rattle.book.specs.Rules.{segmentInRange, priceOn}
-use Rattle.book.proofs.InRange.{in-range, mostBlanks, mostCents, price-small}
+use Rattle.book.specs.Rules.{priceOn}
 use Rattle.supply.specs.declared.Offer.{Offer}
 use Rattle.supply.specs.declared.Offer.the-variants.{Price, NotOffered}
-use Rattle.supply.specs.Supply.{segment0, supplyOf, offers, priceAt, offerOf}
+use Rattle.supply.specs.Supply.{segment0, offers, priceAt, offerOf}
 use Rattle.supply.specs.Places.{FirstOn}
-use Rattle.supply.proofs.Places.{past-first, first-on}
-use Rattle.supply.proofs.OneSegment.{on-high}
+use Rattle.supply.proofs.Places.{past-first}
 
 -- the price on a segment, as an offer
 abbrev pub priced : Segment → ℕ → Offer
@@ -58,32 +52,3 @@ offered ss r p e =
 pub not-offered : (ss : List Segment) (r : ℕ) → offerOf ss r ≡ NotOffered → offers ss r ≡ false
 unfolding offerOf
 not-offered ss r e = offer-cases (offers ss r) (record { 0 = priceAt ss r }) (offerOf ss r) refl .1 e
-
--- Where each segment is in range, the parts of every segment have their limits, segment 0 with them, and so have a quantity that is
--- offered and its price.
-
-pub record Limits (s : Segment) : Type 0 where
-  pub end-high : s .end .0 ≤ mostBlanks
-  pub unit-high : s .unit .0 ≤ 1000000
-  pub fixed-size : natAbs (s .fixed .0) ≤ 1000000000000
-
-pub record Small (ss : List Segment) (r : ℕ) : Type 0 where
-  pub quantity : r ≤ mostBlanks
-  pub price : natAbs (priceAt ss r) ≤ mostCents
-
-module _ (b : BidEntries) (ranges : every segmentInRange (b .segments) ≡ true) where
-  pub limits : (j : ℕ) → j < length (supplyOf b) → Limits (getD (supplyOf b) j segment0)
-  limits zero h = record { end-high = omega arith; unit-high = omega arith; fixed-size = omega arith }
-  limits (suc j) h =
-      let range = in-range _ (every-at segmentInRange (b .segments) j segment0 (le-of-suc-le-suc h) ranges) in
-      record { end-high = range .end-high; unit-high = range .unit-high; fixed-size = range .fixed-size }
-
-  pub found-small : (r j : ℕ) → FirstOn (supplyOf b) r j → r ≤ mostBlanks
-  found-small r j f = omega (arith, on-high _ r (f .here), limits j (f .there) .end-high)
-
-  pub supply-small : (r : ℕ) → offers (supplyOf b) r ≡ true → Small (supplyOf b) r
-  supply-small r e =
-      let (j, f) = first-on (supplyOf b) r e in
-      let range = limits j (f .there) in
-      let few = found-small r j f in
-      record { quantity = few; price = rw (found-there (supplyOf b) r j f .1) (price-small (getD (supplyOf b) j segment0) r (range .unit-high) (range .fixed-size) few) }

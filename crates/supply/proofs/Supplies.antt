@@ -1,9 +1,9 @@
--- The supply functions of a book's bids along a loop, and the segments of one. Assumes nothing.
+-- The supply functions of a book's bids along a loop. Assumes nothing.
 use Prim.Native.Nat.{ℕ, _+_, _≤_, _<_}
 use native.Mathlib.Omega.{arith}
 use mathlib.Core.List.{List, [], _∷_, map}
 use mathlib.Core.Path.{_≡_, ap, _∙_}
-use lib.ListN.{length, getD, take, drop, length-map, length-take, List·getD-map, drop-of-length-le}
+use lib.ListN.{length, getD, take, drop, length-map, List·getD-map, drop-of-length-le}
 use Rattle.lists.proofs.Slices.{drop-next}
 use Rattle.book.specs.declared.Segment.{Segment}
 use Rattle.book.specs.declared.Bid.{Bid}
@@ -11,10 +11,6 @@ use Rattle.book.specs.Entries.{BidEntries, bidEntries}
 use Rattle.book.proofs.Records.{noBid}
 use Rattle.book.proofs.Bids.{length-entries, entry-at}
 use Rattle.supply.specs.Supply.{supplyOf, suppliesOf}
-
--- segment 0, and those that the bid counts
-pub few-segments : (b : Bid) → length (supplyOf (bidEntries b)) ≤ b .count + 1
-few-segments b = rw length-take (omega arith)
 
 module _ (bids : List Bid) (n : ℕ) (held : n ≤ length bids) where
   abbrev entries : List BidEntries

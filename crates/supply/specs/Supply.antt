@@ -15,7 +15,7 @@ abbrev pub segment0 : Segment
 segment0 = record { start = record { 0 = 0 }; end = record { 0 = 0 }; unit = record { 0 = 0 }; fixed = record { 0 = pos 0 } }
 
 -- a bid's supply function: segment 0, and then the bid's segments
-abbrev pub supplyOf : BidEntries → List Segment
+unfoldable pub supplyOf : BidEntries → List Segment
 supplyOf b = segment0 ∷ b .segments
 
 -- the supply functions of bids, in book order

@@ -1,11 +1,12 @@
 // A bid's supply function: which quantities it offers, and at what price.
 ghost use mathlib.Core.Path.{_≡_};
-ghost use Prim.Native.Nat.{_≤_, _<_};
+ghost use Prim.Native.Nat.{_<_};
 ghost use lib.ListN.{length, getD};
 ghost use Rattle.book.specs.Entries.{bidEntries};
+ghost use Rattle.book.specs.Accepted.{AcceptedBid};
 ghost use Rattle.supply.specs.Supply.{on, segment0, supplyOf, offerOf, segmentNumber};
 ghost use Rattle.supply.specs.Places.{FoundAt};
-ghost use Rattle.supply.specs.Asked.{HasSegment, Priceable};
+ghost use Rattle.supply.specs.Asked.{HasSegment};
 use book::Bid;
 use book::Segment;
 use money::Blanks;
@@ -53,7 +54,7 @@ pub fn segment_of(bid: Bid, number: usize) -> Segment
 
 // The first segment of a bid's supply function, segment 0 with it, that a quantity is on.
 fn find(bid: Bid, quantity: Blanks) -> Place
-    requires { ⌜ bid .count ≤ 6 ⌝ }
+    requires { ⌜ AcceptedBid (bidEntries bid) ⌝ }
     ensures { λ r. ⌜ FoundAt (supplyOf (bidEntries bid)) (quantity .0) r ⌝ }
 {
     let mut number: usize = 0;
@@ -69,7 +70,7 @@ fn find(bid: Bid, quantity: Blanks) -> Place
 
 // The price of a quantity by a bid of an accepted book.
 pub fn price_at(bid: Bid, quantity: Blanks) -> Offer
-    requires { ⌜ Priceable bid ⌝ }
+    requires { ⌜ AcceptedBid (bidEntries bid) ⌝ }
     ensures { λ r. ⌜ r ≡ offerOf (supplyOf (bidEntries bid)) (quantity .0) ⌝ }
 {
     let place = find(bid, quantity);
@@ -84,7 +85,7 @@ pub fn price_at(bid: Bid, quantity: Blanks) -> Offer
 
 // The number of the segment that a quantity is on.
 pub fn segment_number(bid: Bid, quantity: Blanks) -> u64
-    requires { ⌜ bid .count ≤ 6 ⌝ }
+    requires { ⌜ AcceptedBid (bidEntries bid) ⌝ }
     ensures { λ r. ⌜ r ≡ segmentNumber (supplyOf (bidEntries bid)) (quantity .0) ⌝ }
 {
     let place = find(bid, quantity);

@@ -2,22 +2,20 @@
 use Prim.Native.Nat.{ℕ, _<_}
 use native.Mathlib.Omega.{arith}
 use mathlib.Core.Option.{some}
-use mathlib.Core.Path.{_≡_, refl, ap, _∙_}
+use mathlib.Core.Path.{_≡_, ap, _∙_}
 use lib.ListN.{length, getD, length-map}
 use Rattle.lists.proofs.All.{all-any, all-map}
 use Rattle.lists.proofs.Removed.{map-removed}
-use Rattle.money.specs.Price.{priceOf}
 use Rattle.book.specs.Entries.{BidEntries, BookEntries}
-use Rattle.supply.specs.Supply.{supplyOf, suppliesOf, on, offers, priceAt}
+use Rattle.supply.specs.Supply.{supplyOf, suppliesOf}
+use Rattle.supply.proofs.Supply.{nothing-offered, nothing-free}
 use Rattle.divisions.specs.Award.{Priced, awardOf, awardOfBook}
 use Rattle.divisions.proofs.Without.{SellsNothing, same-award}
 use Rattle.award.specs.declared.Total.the-variants.{Amount}
 use Rattle.without.specs.Without.{bookWithout, totalOf, totalWithout}
 
--- nothing is on segment 0, at price 0
 sells-nothing : (b : BidEntries) → SellsNothing (supplyOf b)
-unfolding offers on priceAt priceOf
-sells-nothing b = record { offered = refl; free = refl }
+sells-nothing b = record { offered = nothing-offered b; free = nothing-free b }
 
 pub same-total : (b : BookEntries) (award : Priced) → awardOfBook b ≡ some award → (i : ℕ) → i < length (b .bids) → getD (award .quantities) i 0 ≡ 0
     → totalWithout b i ≡ Amount (record { 0 = award .cost })

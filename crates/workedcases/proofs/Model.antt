@@ -18,7 +18,7 @@ use Rattle.book.proofs.Accepted.{all-accepted}
 use Rattle.supply.specs.Supply.{suppliesOf}
 use Rattle.divisions.specs.Award.{Priced, awardOfBook}
 use Rattle.choices.specs.Search.{searched}
-use Rattle.choices.proofs.Accepted.{sound-supplies}
+use Rattle.supply.proofs.Accepted.{sound-supplies}
 use Rattle.choices.proofs.Finds.{finds}
 use Rattle.award.specs.declared.Total.{Total}
 use Rattle.award.specs.declared.Row.{Row}

@@ -1,11 +1,11 @@
--- The price is that of the segment, and the sum does not wrap, by the ranges of an accepted book.
+-- The price is that of the segment, and the sum does not wrap, by the limits of a sound segment.
 use Prim.Native.Nat.{_+_}
 use native.Mathlib.Omega.{arith}
 use mathlib.Core.Path.{_≡_, ap, ap₂, _∙_}
 use lib.IntN.{natAbs}
 use borrow.Author.Needs.{needs}
 use Rattle.book.specs.Rules.{priceOn}
-use Rattle.book.proofs.InRange.{price-fits}
+use Rattle.supply.proofs.Sound.{price-fits}
 use Rattle.charges.specs.Charge.{chargeAt}
 use Rattle.charges.proofs.Sizes.{price-size, rest-size}
 use Rattle.charges.proofs.charge_at.Statement.{statement}
@@ -18,7 +18,7 @@ price-requires : tie.Need-price-requires
 price-requires c κs =
     let a = c .before .before .args in
     let p = c .before .before .pre in
-    price-fits (a .s) (a .quantity .0) (p .sound .unit-high) (p .sound .fixed-size) (p .few)
+    price-fits (a .s) (a .quantity .0) (p .sound) (p .few)
 
 cents : (c : tie.After-at-price) → c .before .before .magnitude .result ≡ natAbs (priceOn (start c .args .s) (start c .args .quantity .0))
 cents c = c .before .before .magnitude .ensures ∙ ap natAbs (c .before .before .before .price .ensures)

@@ -52,7 +52,7 @@ total-beside-requires c κs =
     record { accepted = asked .accepted; within = omega arith; is-award = asked .is-award }
 
 row-of-requires : tie.Need-row-of-requires Inv-loop μ-loop
-row-of-requires c κs = let kept = this-accepted (turn c) in record { held = kept .count-high; ranges = kept .ranges }
+row-of-requires c κs = this-accepted (turn c)
 
 loop-again : tie.Need-loop-again Inv-loop μ-loop
 loop-again c =

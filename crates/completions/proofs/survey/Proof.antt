@@ -44,7 +44,7 @@ loop-holds c =
     (omega arith, from-none _ _ _ (book .count) (c .put-class .ensures) (s .pre .graded) (supplies-done (book .bids) (book .count) (held s) (book .count) (omega arith)))
 
 segment-of-requires : tie.Need-segment-of-requires Inv-loop μ-loop
-segment-of-requires c κs = record { held = accepted (start (c .before)) _ (turn (c .before)) .count-high; within = omega arith }
+segment-of-requires c κs = record { accepted = accepted (start (c .before)) _ (turn (c .before)); within = omega arith }
 
 with-bid-requires : tie.Need-with-bid-requires Inv-loop μ-loop
 with-bid-requires c κs =

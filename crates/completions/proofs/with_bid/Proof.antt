@@ -6,9 +6,9 @@ use borrow.Author.Needs.{needs}
 use lib.ListN.{drop, drop-of-length-le}
 use Rattle.book.specs.Entries.{bidEntries}
 use Rattle.supply.specs.Supply.{supplyOf}
-use Rattle.supply.proofs.Supplies.{few-segments}
-use Rattle.choices.specs.Sound.{SoundSegment}
-use Rattle.choices.proofs.Accepted.{sound-segment-at}
+use Rattle.supply.proofs.Supply.{few-segments}
+use Rattle.supply.specs.Sound.{SoundSegment}
+use Rattle.supply.proofs.Accepted.{sound-segment-at}
 use Rattle.charges.proofs.Sizes.{one-up-to}
 use Rattle.completions.specs.Steps.{ExtendedByBid}
 use Rattle.completions.proofs.Extending.{segments-none, segments-next}
@@ -38,7 +38,7 @@ loop-holds c =
     (omega arith, rw drop-of-length-le (segments-none _ _ _ _ (s .pre .graded)))
 
 segment-of-requires : tie.Need-segment-of-requires Inv-loop μ-loop
-segment-of-requires c κs = record { held = c .before .before .before .pre .accepted .count-high; within = omega (arith, c .before .loop .inv .0) }
+segment-of-requires c κs = record { accepted = c .before .before .before .pre .accepted; within = omega (arith, c .before .loop .inv .0) }
 
 with-segment-requires : tie.Need-with-segment-requires Inv-loop μ-loop
 with-segment-requires c κs =

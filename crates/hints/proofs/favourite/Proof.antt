@@ -16,7 +16,7 @@ add-j : tie.Need-add-j Inv-loop μ-loop
 add-j c = omega (arith, c .before .pre .accepted .count-high)
 
 segment-of-requires : tie.Need-segment-of-requires Inv-loop μ-loop
-segment-of-requires c κs = record { held = c .before .before .before .pre .accepted .count-high; within = omega (arith, c .before .loop .inv) }
+segment-of-requires c κs = record { accepted = c .before .before .before .pre .accepted; within = omega (arith, c .before .loop .inv) }
 
 charge-requires : tie.Need-charge-requires Inv-loop μ-loop
 charge-requires c κs =

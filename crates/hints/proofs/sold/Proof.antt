@@ -27,7 +27,7 @@ favourite-requires : tie.Need-favourite-requires Inv-loop μ-loop
 favourite-requires c κs = asked c
 
 segment-of-requires : tie.Need-segment-of-requires Inv-loop μ-loop
-segment-of-requires c κs = record { held = asked (c .before) .accepted .count-high; within = c .favourite .ensures }
+segment-of-requires c κs = record { accepted = asked (c .before) .accepted; within = c .favourite .ensures }
 
 pub sold-spec : {M : Type 1} → statement M
 sold-spec =

@@ -6,8 +6,8 @@ use mathlib.Core.Path.{sym, _∙_}
 use borrow.Author.Needs.{needs}
 use borrow.Author.Tests.{leb-true, leb-false}
 use Rattle.book.specs.declared.Segment.{Segment}
+use Rattle.supply.specs.Sound.{SoundSegment}
 use Rattle.choices.specs.Choice.{cheaper}
-use Rattle.choices.specs.Sound.{SoundSegment}
 use Rattle.meritorder.specs.Records.{segmentAt}
 use Rattle.meritorder.proofs.Sums.{sound-at, width-counts, dearer, adds-cheaper, Summed, summed-none, sum-small, summed-next, summed-all}
 use Rattle.meritorder.proofs.cheaper.Statement.{statement}

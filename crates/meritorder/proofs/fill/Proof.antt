@@ -4,10 +4,10 @@ use native.Mathlib.Omega.{arith}
 use mathlib.Core.Path.{_≡_, refl, ap}
 use borrow.Author.Needs.{needs}
 use Rattle.book.specs.declared.Segment.{Segment}
-use Rattle.choices.specs.Sound.{SoundSegment}
+use Rattle.supply.specs.Sound.{SoundSegment}
+use Rattle.supply.proofs.Sound.{price-fits}
 use Rattle.choices.proofs.Placed.{fits-low}
 use Rattle.meritorder.specs.Records.{segmentAt, firstSegments, chosen}
-use Rattle.meritorder.proofs.Prices.{price-fits}
 use Rattle.meritorder.proofs.Filling.{Filling, extra-left, filling-none, sound-this, within-end, total-fits, filling-next, filling-all}
 use Rattle.meritorder.proofs.fill.Statement.{statement}
 use Rattle.meritorder.proofs.fill.Tie as tie
@@ -72,7 +72,7 @@ price-requires : tie.Need-price-requires Inv-loop μ-loop
 price-requires c κs =
     let x = c .before .before .before .before .before .before in
     let l = x .before .before in
-    price-fits (this l) (this l .start .0 + x .extra .result .0) (sound l) (at-end x)
+    price-fits (this l) (this l .start .0 + x .extra .result .0) (sound l) (omega (arith, at-end x, sound l .end-high))
 
 plus-requires : tie.Need-plus-requires Inv-loop μ-loop
 plus-requires c κs =

@@ -18,10 +18,10 @@ use Rattle.book.specs.Entries.{bidEntries, bookEntries}
 use Rattle.book.specs.Accepted.{AcceptedBid}
 use Rattle.book.proofs.Records.{noBid}
 use Rattle.supply.specs.Supply.{segment0, supplyOf, suppliesOf}
-use Rattle.supply.proofs.Supplies.{few-segments}
+use Rattle.supply.proofs.Supply.{few-segments}
 use Rattle.choices.specs.Search.{each, leaf}
-use Rattle.choices.specs.Sound.{SoundSegment}
-use Rattle.choices.proofs.Accepted.{sound-segment-at}
+use Rattle.supply.specs.Sound.{SoundSegment}
+use Rattle.supply.proofs.Accepted.{sound-segment-at}
 use Rattle.comparison.specs.declared.MaybeDivision.{MaybeDivision}
 use Rattle.comparison.specs.Records.{found}
 use Rattle.meritorder.specs.Records.{chosen}
@@ -233,7 +233,7 @@ search-loop-holds t c =
 
 search-segment-of-requires : (t : ℕ) → search-lts.Need-segment-of-requires (R t) (search-at t) search′.Post search-Inv-loop search-μ-loop
 search-segment-of-requires t c κs =
-    record { held = accepted t (c .before .before .before .before) .count-high; within = omega (arith, c .before .loop .inv .0) }
+    record { accepted = accepted t (c .before .before .before .before); within = omega (arith, c .before .loop .inv .0) }
 
 search-charged-requires : (t : ℕ) → search-lts.Need-charged-requires (R t) (search-at t) search′.Post search-Inv-loop search-μ-loop
 search-charged-requires t c κs =

@@ -10,10 +10,10 @@ use lib.ListN.{length, drop}
 use Rattle.book.specs.declared.Segment.{Segment}
 use Rattle.book.specs.Entries.{bookEntries}
 use Rattle.supply.specs.Supply.{suppliesOf}
+use Rattle.supply.proofs.Accepted.{sound-supplies}
 use Rattle.divisions.specs.Award.{Priced}
 use Rattle.choices.specs.Search.{leaf, search as searchFrom}
 use Rattle.choices.specs.Leaf.{Started}
-use Rattle.choices.proofs.Accepted.{sound-supplies}
 use Rattle.choices.proofs.Kept.{from-started}
 use Rattle.choices.proofs.Finds.{finds}
 use Rattle.comparison.specs.Records.{found}

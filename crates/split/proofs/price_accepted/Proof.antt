@@ -13,7 +13,8 @@ use Rattle.book.proofs.Accepted.{few-bids, bid-at}
 use Rattle.refusal.specs.declared.Rule.the-variants.{SplitQuantity}
 use Rattle.refusal.specs.declared.Verdict.the-variants.{Refused}
 use Rattle.supply.specs.Supply.{supplyOf, offers, priceAt}
-use Rattle.supply.proofs.Offers.{Small, offered, not-offered, supply-small}
+use Rattle.supply.proofs.Offers.{offered, not-offered}
+use Rattle.supply.proofs.Accepted.{Small, supply-small}
 use Rattle.split.specs.Split.{refusedSplit}
 use Rattle.split.proofs.Left.{Left, left-all, missing, off, sum-fits, left-next, too-long, complete}
 use Rattle.split.proofs.price_accepted.Statement.{statement}
@@ -69,7 +70,7 @@ on-offer c =
     offered (supplyOf (this (turn (asked c)))) _ (offer .0 .0) (sym (asked c .price-at .ensures) ∙ offer .1)
 
 small : (c : tie.After-known-told Inv-loop μ-loop) → let t = turn (asked c) in Small (supplyOf (this t)) (quantity t)
-small c = let t = turn (asked c) in supply-small (this t) (this-accepted t .ranges) (quantity t) (on-offer c .0)
+small c = let t = turn (asked c) in supply-small (this t) (this-accepted t) (quantity t) (on-offer c .0)
 
 returns : tie.Need-returns Inv-loop μ-loop
 returns c =
@@ -78,7 +79,7 @@ returns c =
     c .refused-at .ensures ∙ missing (at .loop .inv) (start at .pre) (t .loop-test .taken) (held at) (c .before .if1 .taken)
 
 price-at-requires : tie.Need-price-at-requires Inv-loop μ-loop
-price-at-requires c κs = let kept = this-accepted (c .before .before .before) in record { held = kept .count-high; ranges = kept .ranges }
+price-at-requires c κs = this-accepted (c .before .before .before)
 
 returns-2 : tie.Need-returns-2 Inv-loop μ-loop
 returns-2 c =

@@ -9,7 +9,7 @@ use lib.ListN.{getD}
 use Rattle.book.specs.Entries.{bidEntries}
 use Rattle.supply.specs.Supply.{segment0, supplyOf, on}
 use Rattle.supply.proofs.Places.{nowhere}
-use Rattle.supply.proofs.Numbers.{number-counted}
+use Rattle.supply.proofs.Supply.{number-counted}
 use Rattle.supply.proofs.find.Statement.{statement}
 use Rattle.supply.proofs.find.Tie as tie
 
@@ -40,7 +40,7 @@ loop-again c = (omega arith, below-more _ _ (turn (c .before) .loop .inv .1) (te
 returns-2 : tie.Need-returns-2 Inv-loop μ-loop
 returns-2 c =
     let b = c .before .before .before .args .bid in
-    nowhere _ _ (λ k h. c .before .before .loop .inv .1 k (omega (arith, number-counted (b .segments) (b .count) k h)))
+    nowhere _ _ (λ k h. c .before .before .loop .inv .1 k (omega (arith, number-counted b k h)))
 
 pub find-spec : {M : Type 1} → statement M
 find-spec =
@@ -49,7 +49,7 @@ find-spec =
     Inv-loop
     μ-loop
     (λ c. (omega arith, below-none _))
-    (λ c κs. record { held = c .before .before .before .pre; within = omega arith })
+    (λ c κs. record { accepted = c .before .before .before .pre; within = omega arith })
     (λ c κs. search needs)
     returns
     (λ c. search needs) (λ c. search needs)

@@ -1,15 +1,17 @@
--- The offer is the price on the segment that `find` gives; the segment is in range, so the price fits.
+-- The offer is the price on the segment that `find` gives; the segment is sound, so the price fits.
 use mathlib.Core.Path.{sym, ap, _∙_}
 use native.Mathlib.Omega.{arith}
 use borrow.Author.Needs.{needs}
 use lib.IntN.{ℤ}
 use Rattle.book.specs.Entries.{bidEntries}
-use Rattle.book.proofs.InRange.{price-fits}
 use Rattle.supply.specs.declared.Offer.the-variants.{Price}
 use Rattle.supply.specs.Supply.{supplyOf}
 use Rattle.supply.specs.Places.{FirstOn}
-use Rattle.supply.proofs.Numbers.{number-counted}
-use Rattle.supply.proofs.Offers.{offer-found, offer-nowhere, Limits, limits, found-small}
+use Rattle.supply.specs.Sound.{SoundSegment}
+use Rattle.supply.proofs.Supply.{number-counted}
+use Rattle.supply.proofs.Offers.{offer-found, offer-nowhere}
+use Rattle.supply.proofs.Sound.{price-fits}
+use Rattle.supply.proofs.Accepted.{sound-segment-at, found-small}
 use Rattle.supply.proofs.price_at.Statement.{statement}
 use Rattle.supply.proofs.price_at.Tie as tie
 
@@ -28,15 +30,15 @@ returns c = sym (offer-nowhere _ _ (rw (c .enum-told .given .1) at (c .before .b
 segment-of-requires : tie.Need-segment-of-requires
 segment-of-requires c κs =
     let b = start c .args .bid in
-    record { held = start c .pre .held; within = omega (arith, number-counted (b .segments) (b .count) _ (first c .there)) }
+    record { accepted = start c .pre; within = omega (arith, number-counted b _ (first c .there)) }
 
 price-requires : tie.Need-price-requires
 price-requires c κs =
     let told = c .before .before .before in
     let s = start told in
     let there = c .before .before .segment-of in
-    let range : Limits (there .result) = rw (there .ensures .1) (limits (bidEntries (s .args .bid)) (s .pre .ranges) _ (there .ensures .0)) in
-    price-fits (there .result) _ (range .unit-high) (range .fixed-size) (found-small (bidEntries (s .args .bid)) (s .pre .ranges) _ _ (first told))
+    let sound : SoundSegment (there .result) = rw (there .ensures .1) (sound-segment-at (bidEntries (s .args .bid)) (s .pre) _ (there .ensures .0)) in
+    price-fits (there .result) _ sound (found-small (bidEntries (s .args .bid)) (s .pre) _ _ (first told))
 
 returns-2 : tie.Need-returns-2
 returns-2 c =

@@ -45,7 +45,7 @@ segment-of-requires : tie.Need-segment-of-requires Inv-loop μ-loop
 segment-of-requires c κs =
     let t = c .before .before .before in
     let l = around t in
-    record { held = accepted-next (l .loop .inv .0) (t .if1 .taken) (held l) .count-high; within = c .within .ensures }
+    record { accepted = accepted-next (l .loop .inv .0) (t .if1 .taken) (held l); within = c .within .ensures }
 
 choose-requires : tie.Need-choose-requires Inv-loop μ-loop
 choose-requires c κs =

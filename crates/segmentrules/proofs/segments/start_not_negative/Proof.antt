@@ -1,6 +1,5 @@
 -- The price at the start fits, by rule 5, and 0 is compared with it.
 use mathlib.Core.Path.{ap, _∙_}
-use native.Mathlib.Omega.{arith}
 use borrow.Author.Needs.{needs}
 use lib.IntN.{pos}
 use lib.Signed.{leZ}
@@ -12,8 +11,7 @@ use Rattle.segmentrules.proofs.segments.start_not_negative.Tie as tie
 price-requires : tie.Need-price-requires
 price-requires c κs =
     let a = c .before .before .before in
-    let range = in-range (a .args .s) (a .pre) in
-    price-fits (a .args .s) _ (range .unit-high) (range .fixed-size) (omega (arith, range .start-high, range .end-high))
+    price-fits (a .args .s) (in-range (a .args .s) (a .pre))
 
 returns : tie.Need-returns
 unfolding startNotNegative
