@@ -21,7 +21,7 @@ use Rattle.forms.proofs.Some.{one-or-more-laws, one-or-more-headed}
 use Rattle.forms.proofs.Whole.{reading}
 use Rattle.book.specs.declared.Segment.{Segment}
 use Rattle.book.specs.Entries.{BidEntries, BookEntries}
-use Rattle.booktext.specs.BookText.{segmentText, bidText, bookText}
+use Rattle.booktext.specs.BookText.{segmentText, bidHead, bidText, bookHead, bookText}
 use Rattle.booktext.specs.WellFormed.{WellFormedSegment, WellFormedBid, WellFormedBook}
 use Rattle.booktext.specs.BookForm.{segment-numbers, fixed-close, toSegment, segment, segments, bidFurther, BidHead, bid-head, bidOf, segments-line, bid, bids, bookFurther, Head, head, bookOf, book}
 
@@ -70,7 +70,7 @@ abbrev fromBid : BidEntries → BidHead × (List Segment × Unit {0})
 fromBid b = ((tt, b .bidder), (b .segments, tt))
 
 same-bid : Same (sequence bid-head segments-line) (λ x. bidOf (x .0) (x .1 .0)) fromBid WellFormedBid bidText
-unfolding bidText
+unfolding bidHead bidText
 same-bid = record {
   to-valid = λ b v. ((tt, (omega arith, v .bidder)), ((omega (arith, v .count, v .some), v .segments), tt));
   back = λ b v. rw (sym (v .count));
@@ -82,7 +82,7 @@ pub bid-laws : Laws bid
 bid-laws = via-laws (sequence-laws bid-head-laws segments-line-laws head-segments) same-bid
 
 pub bid-open : FirstByte 40 bid
-unfolding bidText
+unfolding bidHead bidText
 bid-open b v = (_, refl)
 
 bids-laws : Laws bids
@@ -96,7 +96,7 @@ abbrev fromBook : BookEntries → Head × List BidEntries
 fromBook b = (b .demand, b .bids)
 
 same-book : Same (sequence head bids) (λ x. bookOf (x .0) (x .1)) fromBook WellFormedBook bookText
-unfolding bookText
+unfolding bookHead bookText
 same-book = record {
   to-valid = λ b v. ((omega arith, v .demand), (omega (arith, v .count, v .some), v .bids));
   back = λ b v. rw (sym (v .count));

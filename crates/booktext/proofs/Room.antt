@@ -20,7 +20,7 @@ use Rattle.book.specs.Room.{roomOfBids}
 use Rattle.book.specs.Accepted.{AcceptedBid}
 use Rattle.book.proofs.Accepted.{book-accepted, all-accepted}
 use Rattle.book.proofs.InRange.{in-range}
-use Rattle.booktext.specs.BookText.{segmentText, bidText, bookText}
+use Rattle.booktext.specs.BookText.{segmentText, bidHead, bidText, bookHead, bookText}
 use Rattle.booktext.specs.WellFormed.{WellFormedBid, WellFormedBook}
 
 seven : (n : ℕ) → n ≤ 1000000 → length (digits n) ≤ 7
@@ -50,7 +50,7 @@ abbrev RoomFor : BidEntries → Type 0
 RoomFor b = length (bidText b) ≤ 11 + 45 * b .count
 
 bid-short : (b : BidEntries) → WellFormedBid b × AcceptedBid b → RoomFor b
-unfolding bidText
+unfolding bidHead bidText
 bid-short b h =
     let each = all-from _ _ segment-short (b .segments) (all-tested segmentInRange (b .segments) (h .1 .ranges)) in
     let bidder = four (b .bidder) (h .1 .bidder-high) in
@@ -70,7 +70,7 @@ most-room (b ∷ bs) h = omega (arith, h .0 .count-high, most-room bs (h .1))
 
 module _ (b : BookEntries) (well-formed : WellFormedBook b) (accepted : bookVerdict b ≡ Accepted) where
   pub room-bounds : length (bookText b) ≤ 17 + roomOfBids (b .bids)
-  unfolding bookText
+  unfolding bookHead bookText
   room-bounds =
       let demand = seven (b .demand) (book-accepted b accepted .demand-high) in
       let each =

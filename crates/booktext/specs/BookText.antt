@@ -16,10 +16,16 @@ segmentText s =
     ++ ascii " " ++ signedDigits (s .fixed .0)
     ++ ascii ")"
 
--- the bidder number and the segments
+-- the bidder number, and then the segments
+unfoldable pub bidHead : BidEntries → List ℕ
+bidHead b = ascii "(bid " ++ digits (b .bidder)
+
 unfoldable pub bidText : BidEntries → List ℕ
-bidText b = ascii "(bid " ++ digits (b .bidder) ++ joined segmentText (b .segments) ++ ascii ")\n"
+bidText b = bidHead b ++ joined segmentText (b .segments) ++ ascii ")\n"
 
 -- the demand, and then the bids
+unfoldable pub bookHead : BookEntries → List ℕ
+bookHead b = ascii "(demand " ++ digits (b .demand) ++ ascii ")\n"
+
 unfoldable pub bookText : BookEntries → List ℕ
-bookText b = ascii "(demand " ++ digits (b .demand) ++ ascii ")\n" ++ joined bidText (b .bids)
+bookText b = bookHead b ++ joined bidText (b .bids)

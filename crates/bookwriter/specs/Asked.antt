@@ -15,4 +15,4 @@ pub record BidAt (most : ℕ) (bid : Bid) (at : ℕ) : Type 0 where
 -- the bids of an accepted book are put right after its first line
 pub record BidsAt (book : Book) (at : ℕ) : Type 0 where
   pub accepted : bookVerdict (bookEntries book) ≡ Accepted
-  pub place : at ≤ 1000
+  pub place : at ≤ 4000

@@ -4,7 +4,7 @@ ghost use Prim.Native.Nat.{_+_, _≤_};
 ghost use Rattle.lists.specs.Joined.{joined};
 ghost use Rattle.book.specs.Entries.{bidEntries, bookEntries};
 ghost use Rattle.book.specs.Rules.{bookVerdict};
-ghost use Rattle.booktext.specs.BookText.{segmentText, bidText, bookText};
+ghost use Rattle.booktext.specs.BookText.{segmentText, bidHead, bidText, bookHead, bookText};
 ghost use Rattle.printer.specs.Written.{Put};
 ghost use Rattle.lines.specs.Line.{partText};
 ghost use Rattle.refusal.specs.declared.Verdict.the-variants.{Accepted};
@@ -47,12 +47,29 @@ fn put_segments(out: &mut [u8], at: usize, bid: Bid) -> usize
     next
 }
 
+// What stands before the segments of a bid.
+fn bid_head(bid: Bid) -> [Part; 8]
+    ensures { λ r. ⌜ joined partText r ≡ bidHead (bidEntries bid) ⌝ }
+{
+    [
+        Part::Number(Word::Bid, bid.bidder),
+        Part::Nothing,
+        Part::Nothing,
+        Part::Nothing,
+        Part::Nothing,
+        Part::Nothing,
+        Part::Nothing,
+        Part::Nothing,
+    ]
+}
+
 fn put_bid(out: &mut [u8], at: usize, bid: Bid) -> usize
     requires { ⌜ BidAt 900000 bid at ⌝ }
     ensures { λ r. ⌜ Put (now (out .entry)) at (bidText (bidEntries bid)) (now (out .exit)) r ⌝ }
-    ensures { λ r. ⌜ r ≤ at + 25000 ⌝ }
+    ensures { λ r. ⌜ r ≤ at + 29000 ⌝ }
 {
-    let segments = lines::put_part(out, at, Part::Number(Word::Bid, bid.bidder));
+    let head = bid_head(bid);
+    let segments = lines::put(out, at, head);
     let close = put_segments(out, segments, bid);
     lines::put_part(out, close, Part::Fixed(Word::CloseLine))
 }
@@ -71,12 +88,28 @@ fn put_bids(out: &mut [u8], at: usize, book: Book) -> usize
     next
 }
 
+// The line of a book that stands before its bids.
+fn book_head(book: Book) -> [Part; 8]
+    ensures { λ r. ⌜ joined partText r ≡ bookHead (bookEntries book) ⌝ }
+{
+    [
+        Part::Number(Word::Demand, book.demand.0),
+        Part::Fixed(Word::CloseLine),
+        Part::Nothing,
+        Part::Nothing,
+        Part::Nothing,
+        Part::Nothing,
+        Part::Nothing,
+        Part::Nothing,
+    ]
+}
+
 // Of an accepted book, whose counts are in their ranges.
 pub fn put_book(out: &mut [u8], book: Book) -> usize
     requires { ⌜ bookVerdict (bookEntries book) ≡ Accepted ⌝ }
     ensures { λ r. ⌜ Put (now (out .entry)) 0 (bookText (bookEntries book)) (now (out .exit)) r ⌝ }
 {
-    let close = lines::put_part(out, 0, Part::Number(Word::Demand, book.demand.0));
-    let bids = lines::put_part(out, close, Part::Fixed(Word::CloseLine));
+    let head = book_head(book);
+    let bids = lines::put(out, 0, head);
     put_bids(out, bids, book)
 }

@@ -18,7 +18,7 @@ use Rattle.bookwriter.proofs.bids.put_bids.Tie as tie
 
 abbrev Inv-loop : tie.InvT-loop
 Inv-loop out₀ at book next₀ i₀ out next i =
-    (i ≤ book .count) × (next ≤ at + 25000 * i) × (length out ≡ length out₀) × Put out₀ at (joined bidLine (take i (book .bids))) out next
+    (i ≤ book .count) × (next ≤ at + 29000 * i) × (length out ≡ length out₀) × Put out₀ at (joined bidLine (take i (book .bids))) out next
 
 abbrev μ-loop : tie.MeasureT-loop
 μ-loop out₀ at book next₀ i₀ out next i = book .count - i
