@@ -80,7 +80,7 @@ cost-up-to (b ∷ bs) (r ∷ rs) a d =
 
 -- the award of at most eight accepted bids
 abbrev pub mostTotal : ℕ
-mostTotal = 16000000000000
+mostTotal = 16080000000000
 
 pub award-up-to : (b : BookEntries) → All AcceptedBid (b .bids) → length (b .bids) ≤ 8 → (award : Priced) → IsAwardOf b award → UpTo mostTotal (award .cost)
 award-up-to b bids few award is =

@@ -18,6 +18,9 @@ pub fn check_bid(bid: Bid, line: u64, before: u64) -> Verdict
     if !segmentrules::within(1, 9_999, bid.bidder) {
         return Verdict::Refused(Rule::Range, line);
     }
+    if !segmentrules::within(0, 10_000, bid.carriage.0) {
+        return Verdict::Refused(Rule::Range, line);
+    }
     if !segmentrules::all_pass(Test::InRange, bid) {
         return Verdict::Refused(Rule::Range, line);
     }

@@ -2,6 +2,7 @@
 use Prim.Native.Nat.{ℕ, zero, suc, _+_, _≤_, _<_}
 use native.Mathlib.Nat.{le-of-suc-le-suc, not-suc-le-zero}
 use native.Mathlib.Omega.{arith}
+use mathlib.Core.Bool.{_&&_}
 use mathlib.Core.List.{List, [], _∷_, map}
 use mathlib.Core.Path.{_≡_, subst}
 use borrow.Author.Tests.{leb-true, ltb-true}
@@ -27,14 +28,17 @@ line-accepted line before b e =
     let (count, (ranges, (above, (rises, (not-negative, _))))) = all-passed (_ ∷ _ ∷ _ ∷ _ ∷ _ ∷ []) e in
     let counted = test-holds _ _ _ count in
     let ranged = test-holds _ _ _ ranges in
-    let bidder = both-left (within 1 9999 (b .bidder)) _ ranged in
+    let head = both-left (within 1 9999 (b .bidder) && within 0 10000 (b .carriage)) _ ranged in
+    let bidder = both-left (within 1 9999 (b .bidder)) _ head in
+    let carriage = both-right (within 1 9999 (b .bidder)) _ head in
     record {
       bid = record {
         count-low = within-low 1 6 (b .count) counted;
         count-high = within-high 1 6 (b .count) counted;
         bidder-low = within-low 1 9999 (b .bidder) bidder;
         bidder-high = within-high 1 9999 (b .bidder) bidder;
-        ranges = both-right (within 1 9999 (b .bidder)) _ ranged;
+        carriage-high = within-high 0 10000 (b .carriage) carriage;
+        ranges = both-right (within 1 9999 (b .bidder) && within 0 10000 (b .carriage)) _ ranged;
         rises = test-holds _ _ _ rises;
         not-negative = test-holds _ _ _ not-negative;
       };

@@ -8,4 +8,4 @@ abbrev pub noSegment : Segment
 noSegment = record { start = record { 0 = 0 }; end = record { 0 = 0 }; unit = record { 0 = 0 }; fixed = record { 0 = pos 0 } }
 
 abbrev pub noBid : Bid
-noBid = record { bidder = 0; count = 0; segments = [] }
+noBid = record { bidder = 0; carriage = record { 0 = 0 }; count = 0; segments = [] }

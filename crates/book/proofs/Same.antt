@@ -26,7 +26,7 @@ past-bids b i bid h =
 
 -- a segment of a bid stored past the bid's count
 abbrev pub withSegment : Bid → ℕ → Segment → Bid
-withSegment b j s = record { bidder = b .bidder; count = b .count; segments = set (b .segments) j s }
+withSegment b j s = record { bidder = b .bidder; carriage = b .carriage; count = b .count; segments = set (b .segments) j s }
 
 past-segment : (b : Bid) (j : ℕ) (s : Segment) → b .count ≤ j → bidEntries (withSegment b j s) ≡ bidEntries b
 past-segment b j s h =

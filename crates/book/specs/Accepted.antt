@@ -12,6 +12,7 @@ pub record AcceptedBid (b : BidEntries) : Type 0 where
   pub count-high : b .count ≤ 6
   pub bidder-low : 1 ≤ b .bidder
   pub bidder-high : b .bidder ≤ 9999
+  pub carriage-high : b .carriage ≤ 10000
   pub ranges : every segmentInRange (b .segments) ≡ true
   pub rises : segmentsRise 0 (b .segments) ≡ true
   pub not-negative : every startNotNegative (b .segments) ≡ true

@@ -7,9 +7,11 @@ use Rattle.book.specs.declared.Segment.{Segment}
 use Rattle.book.specs.declared.Bid.{Bid}
 use Rattle.book.specs.declared.Book.{Book}
 
--- A bid: the bidder number, how many segments it has, and the segments; of a record, those that it holds.
+-- A bid: the bidder number, the carriage in cents for one blank, how many segments it has, and the segments; of a record, those that it
+-- holds.
 pub record BidEntries : Type 0 where
   pub bidder : ℕ
+  pub carriage : ℕ
   pub count : ℕ
   pub segments : List Segment
 
@@ -20,7 +22,7 @@ pub record BookEntries : Type 0 where
   pub bids : List BidEntries
 
 abbrev pub bidEntries : Bid → BidEntries
-bidEntries b = record { bidder = b .bidder; count = b .count; segments = take (b .count) (b .segments) }
+bidEntries b = record { bidder = b .bidder; carriage = b .carriage .0; count = b .count; segments = take (b .count) (b .segments) }
 
 abbrev pub bookEntries : Book → BookEntries
 bookEntries b = record { demand = b .demand .0; count = b .count; bids = map bidEntries (take (b .count) (b .bids)) }

@@ -1,4 +1,4 @@
--- Rules 3 to 8 of document 01, section "What is turned down": the first fault of a book, its rule and its line.
+-- Rules 3 to 8 of document 01, section "What is turned down", with the carriage of document 02, change 2: the first fault of a book, its rule and its line.
 -- Lines are taken from the first, and in a line the rules by their numbers. The demand is line 1, the first bid line 2.
 use Prim.Native.Nat.{ℕ, _+_}
 use mathlib.Core.Bool.{Bool, true, _&&_}
@@ -32,7 +32,7 @@ segmentInRange s =
 
 -- rule 5, of a bid
 unfoldable pub bidInRange : BidEntries → Bool
-bidInRange b = within 1 9999 (b .bidder) && every segmentInRange (b .segments)
+bidInRange b = within 1 9999 (b .bidder) && within 0 10000 (b .carriage) && every segmentInRange (b .segments)
 
 -- rule 7: each start is at most its end, and above the end before it; before the first segment stands 0
 unfoldable pub segmentsRise : ℕ → List Segment → Bool
@@ -43,7 +43,7 @@ segmentsRise before (s ∷ ss) = ltb before (s .start .0) && leb (s .start .0) (
 abbrev pub priceOn : Segment → ℕ → ℤ
 priceOn s r = priceOf (s .unit .0) r (s .fixed .0)
 
--- rule 8: the price at a segment's start is not negative
+-- rule 8: the price at a segment's start is not negative, by the curve without carriage
 unfoldable pub startNotNegative : Segment → Bool
 startNotNegative s = leZ (pos 0) (priceOn s (s .start .0))
 

@@ -14,9 +14,11 @@ pub struct Segment {
     pub fixed: Cents,
 }
 
-// A bidder's supply function: the first `count` of the segments; the others are ignored.
+// A bidder's price curve, the first `count` of the segments; the others are ignored. Each blank costs the
+// carriage besides.
 pub struct Bid {
     pub bidder: u64,
+    pub carriage: CentsPerBlank,
     pub count: usize,
     pub segments: [Segment; 6],
 }

@@ -8,6 +8,7 @@ mod segments;
 
 use book::Book;
 use money::Blanks;
+use money::CentsPerBlank;
 use scanner::Cursor;
 use segments::ParsedBid;
 
@@ -24,10 +25,12 @@ fn bidder(text: &[u8], from: Cursor) -> ParsedBid
     ensures { λ r. ⌜ r .next .at ≤ length (now (text .entry)) ⌝ }
 {
     let start = scanner::word(text, from, b"(bid ");
-    let parsed = numberline::spaced(text, start, 0);
+    let parsed = numberline::spaced(text, start, 1);
     let next = parsed.next;
     let mut bid = bookrecord::empty_bid();
     bid.bidder = parsed.first;
+    let carriage = CentsPerBlank(parsed.second);
+    bid.carriage = carriage;
     ParsedBid { bid, next }
 }
 

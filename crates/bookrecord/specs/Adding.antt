@@ -14,7 +14,7 @@ abbrev pub added : {A : Type 0} → ℕ → List A → ℕ → A → List A
 added places xs count x = cond (ltb count places) (set xs count x) xs
 
 abbrev pub withSegment : Bid → Segment → Bid
-withSegment b s = record { bidder = b .bidder; count = b .count + 1; segments = added 6 (b .segments) (b .count) s }
+withSegment b s = record { bidder = b .bidder; carriage = b .carriage; count = b .count + 1; segments = added 6 (b .segments) (b .count) s }
 
 abbrev pub withBid : Book → Bid → Book
 withBid b bid = record { demand = b .demand; count = b .count + 1; bids = added 8 (b .bids) (b .count) bid }

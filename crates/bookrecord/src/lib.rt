@@ -27,6 +27,7 @@ pub fn empty_bid() -> Bid
     let segment = empty_segment();
     Bid {
         bidder: 0,
+        carriage: CentsPerBlank(0),
         count: 0,
         segments: [segment; 6],
     }

@@ -12,13 +12,13 @@ use book::Book;
 pub fn room_of_bids(book: Book) -> u64
     requires { ⌜ bookVerdict (bookEntries book) ≡ Accepted ⌝ }
     ensures { λ r. ⌜ r ≡ roomOfBids (bookEntries book .bids) ⌝ }
-    ensures { λ r. ⌜ r ≤ 8 * (11 + 45 * 6) ⌝ }
+    ensures { λ r. ⌜ r ≤ 8 * (17 + 45 * 6) ⌝ }
 {
     let mut room: u64 = 0;
     let mut i: usize = 0;
     while i < book.count {
         let b = book.bids[i];
-        room += 11 + 45 * (b.count as u64);
+        room += 17 + 45 * (b.count as u64);
         i += 1;
     }
     room

@@ -33,7 +33,7 @@ pub fn check(book: Book) -> Verdict
     Verdict::Accepted
 }
 
-// How many bytes the book's text takes at most: 17 + 11 for each bid + 45 for each segment.
+// How many bytes the book's text takes at most: 17 + 17 for each bid + 45 for each segment.
 pub fn room(book: Book) -> RoomFigure
     ensures { λ r. ⌜ r ≡ roomOf (bookEntries book) ⌝ }
 {

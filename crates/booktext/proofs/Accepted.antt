@@ -33,6 +33,7 @@ well-formed-bid x h =
     let ss = take (x .count) (x .segments) in
     record {
       bidder = few-digits _ (omega (arith, h .0 .bidder-high));
+      carriage = few-digits _ (omega (arith, h .0 .carriage-high));
       count = sym (length-take-le (x .count) (x .segments) few);
       some = h .0 .count-low;
       segments = all-from _ WellFormedSegment well-formed-segment ss (all-tested segmentInRange ss (h .0 .ranges));

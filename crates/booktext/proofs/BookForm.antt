@@ -67,14 +67,14 @@ head-segments b r v h =
     subst (λ (t : List ℕ). Next NoDigit ((t ++ ascii ")\n") ++ r)) (sym (s .1)) (λ l k. omega arith)
 
 abbrev fromBid : BidEntries → BidHead × (List Segment × Unit {0})
-fromBid b = ((tt, b .bidder), (b .segments, tt))
+fromBid b = ((tt, (b .bidder, b .carriage)), (b .segments, tt))
 
 same-bid : Same (sequence bid-head segments-line) (λ x. bidOf (x .0) (x .1 .0)) fromBid WellFormedBid bidText
 unfolding bidHead bidText
 same-bid = record {
-  to-valid = λ b v. ((tt, (omega arith, v .bidder)), ((omega (arith, v .count, v .some), v .segments), tt));
+  to-valid = λ b v. ((tt, ((omega arith, v .bidder), (omega arith, v .carriage))), ((omega (arith, v .count, v .some), v .segments), tt));
   back = λ b v. rw (sym (v .count));
-  from-valid = λ x v. record { bidder = v .0 .1 .1; count = refl; some = v .1 .0 .0; segments = v .1 .0 .1 };
+  from-valid = λ x v. record { bidder = v .0 .1 .0 .1; carriage = v .0 .1 .1 .1; count = refl; some = v .1 .0 .0; segments = v .1 .0 .1 };
   same-text = λ x v. simp append-assoc;
 }
 

@@ -1,4 +1,4 @@
--- The room figure: an accepted book's text is no longer, and at most 2,265 bytes. Assumes nothing.
+-- The room figure: an accepted book's text is no longer, and at most 2,313 bytes. Assumes nothing.
 use Prim.Native.Nat.{ℕ, suc, _+_, _*_, _≤_}
 use native.Mathlib.Omega.{arith}
 use mathlib.Core.Bool.{true}
@@ -29,6 +29,9 @@ seven n h = length-below 6 n (omega arith)
 four : (n : ℕ) → n ≤ 9999 → length (digits n) ≤ 4
 four n h = length-below 3 n (omega arith)
 
+five : (n : ℕ) → n ≤ 10000 → length (digits n) ≤ 5
+five n h = length-below 4 n (omega arith)
+
 -- the sign and thirteen digits
 fourteen : (z : ℤ) → natAbs z ≤ 1000000000000 → length (signedDigits z) ≤ 14
 unfolding signedDigits
@@ -47,13 +50,14 @@ segment-short s e =
 
 -- the bid's part of the room figure
 abbrev RoomFor : BidEntries → Type 0
-RoomFor b = length (bidText b) ≤ 11 + 45 * b .count
+RoomFor b = length (bidText b) ≤ 17 + 45 * b .count
 
 bid-short : (b : BidEntries) → WellFormedBid b × AcceptedBid b → RoomFor b
 unfolding bidHead bidText
 bid-short b h =
     let each = all-from _ _ segment-short (b .segments) (all-tested segmentInRange (b .segments) (h .1 .ranges)) in
     let bidder = four (b .bidder) (h .1 .bidder-high) in
+    let carriage = five (b .carriage) (h .1 .carriage-high) in
     let segments = joined-short segmentText 45 (b .segments) each in
     simp length-append (omega (arith, h .0 .count))
 
@@ -62,8 +66,8 @@ unfolding roomOfBids
 bids-short [] h = omega arith
 bids-short (b ∷ bs) h = simp length-append (omega (arith, h .0, bids-short bs (h .1)))
 
--- 11 + 45 * 6 for each
-most-room : (bs : List BidEntries) → All AcceptedBid bs → roomOfBids bs ≤ 281 * length bs
+-- 17 + 45 * 6 for each
+most-room : (bs : List BidEntries) → All AcceptedBid bs → roomOfBids bs ≤ 287 * length bs
 unfolding roomOfBids
 most-room [] h = omega arith
 most-room (b ∷ bs) h = omega (arith, h .0 .count-high, most-room bs (h .1))
@@ -78,7 +82,7 @@ module _ (b : BookEntries) (well-formed : WellFormedBook b) (accepted : bookVerd
       (all-both WellFormedBid AcceptedBid (b .bids) (well-formed .bids) (all-accepted b accepted)) in
       simp length-append (omega (arith, bids-short (b .bids) each))
 
-  pub text-short : length (bookText b) ≤ 2265
+  pub text-short : length (bookText b) ≤ 2313
   text-short =
       let few = book-accepted b accepted .count-high in
       omega (arith, room-bounds, most-room (b .bids) (all-accepted b accepted), well-formed .count)

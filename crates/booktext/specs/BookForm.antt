@@ -33,9 +33,9 @@ segment = via (sequence segment-numbers fixed-close) toSegment WellFormedSegment
 abbrev pub segments : Form (List Segment)
 segments = one-or-more 32 segment
 
--- what stands before them: the bidder, and no further number
+-- what stands before them: the bidder, and one further number, the carriage
 abbrev pub bidFurther : ℕ
-bidFurther = 0
+bidFurther = 1
 
 abbrev pub BidHead : Type 0
 BidHead = Unit {0} × Numbers bidFurther
@@ -45,7 +45,7 @@ bid-head = sequence (word (ascii "(bid ")) (numbers bidFurther)
 
 -- a bid's line
 abbrev pub bidOf : BidHead → List Segment → BidEntries
-bidOf h xs = record { bidder = h .1; count = length xs; segments = xs }
+bidOf h xs = record { bidder = h .1 .0; carriage = h .1 .1; count = length xs; segments = xs }
 
 abbrev pub segments-line : Form (List Segment × Unit {0})
 segments-line = sequence segments (word (ascii ")\n"))

@@ -1,4 +1,4 @@
--- The text of a bid book (document 01, section "The bid book"): one form a line, each line ended by byte 10.
+-- The text of a bid book (document 01, section "The bid book", with the carriage of document 02, change 2): one form a line, each line ended by byte 10.
 use Prim.Native.Nat.{ℕ}
 use mathlib.Core.List.{List, _++_}
 use Rattle.lists.specs.Joined.{joined}
@@ -16,9 +16,9 @@ segmentText s =
     ++ ascii " " ++ signedDigits (s .fixed .0)
     ++ ascii ")"
 
--- the bidder number, and then the segments
+-- the bidder number and the carriage, and then the segments
 unfoldable pub bidHead : BidEntries → List ℕ
-bidHead b = ascii "(bid " ++ digits (b .bidder)
+bidHead b = ascii "(bid " ++ digits (b .bidder) ++ ascii " " ++ digits (b .carriage)
 
 unfoldable pub bidText : BidEntries → List ℕ
 bidText b = bidHead b ++ joined segmentText (b .segments) ++ ascii ")\n"

@@ -14,13 +14,13 @@ abbrev pub emptySegment : Segment
 emptySegment = record { start = record { 0 = 0 }; end = record { 0 = 0 }; unit = record { 0 = 0 }; fixed = record { 0 = pos 0 } }
 
 abbrev pub emptyBid : Bid
-emptyBid = record { bidder = 0; count = 0; segments = replicate 6 emptySegment }
+emptyBid = record { bidder = 0; carriage = record { 0 = 0 }; count = 0; segments = replicate 6 emptySegment }
 
 abbrev pub emptyBook : Book
 emptyBook = record { demand = record { 0 = 0 }; count = 0; bids = replicate 8 emptyBid }
 
 unfoldable pub bidRecord : BidEntries → Bid
-bidRecord b = record { bidder = b .bidder; count = b .count; segments = padded 6 emptySegment (b .segments) }
+bidRecord b = record { bidder = b .bidder; carriage = record { 0 = b .carriage }; count = b .count; segments = padded 6 emptySegment (b .segments) }
 
 unfoldable pub bookRecord : BookEntries → Book
 bookRecord b = record { demand = record { 0 = b .demand }; count = b .count; bids = padded 8 emptyBid (map bidRecord (b .bids)) }

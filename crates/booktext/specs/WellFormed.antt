@@ -22,6 +22,7 @@ pub record WellFormedSegment (s : Segment) : Type 0 where
 -- what a bid counts are its segments, and a book its bids
 pub record WellFormedBid (b : BidEntries) : Type 0 where
   pub bidder : ThirteenDigits (b .bidder)
+  pub carriage : ThirteenDigits (b .carriage)
   pub count : b .count ≡ length (b .segments)
   pub some : 1 ≤ b .count
   pub segments : All WellFormedSegment (b .segments)

@@ -53,7 +53,7 @@ fn bid_head(bid: Bid) -> [Part; 8]
 {
     [
         Part::Number(Word::Bid, bid.bidder),
-        Part::Nothing,
+        Part::Number(Word::Space, bid.carriage.0),
         Part::Nothing,
         Part::Nothing,
         Part::Nothing,

@@ -38,7 +38,7 @@ fn answer(bytes: &[u8], about: usize, at: usize) {
     let line = pieces::line(bytes, at);
     let body = pieces::body(bytes, about);
     show::line(line);
-    let mut numbers = [0u64; 260];
+    let mut numbers = [0u64; 270];
     let last = pieces::numbers(line, &mut numbers);
     let size = (numbers[1] % 600) as usize;
     let quantities = pieces::to_last(&numbers, last);

@@ -48,10 +48,10 @@ pub fn body(bytes: &[u8], at: usize) -> &[u8] {
 // A negative number is kept as its magnitude and this.
 pub const NEGATIVE: u64 = 9_223_372_036_854_775_808;
 
-// Puts the words before the first `:`, as numbers, each at its place: in a row of 26, and after a line end in the next. A word that
+// Puts the words before the first `:`, as numbers, each at its place: in a row of 27, and after a line end in the next. A word that
 // is no number counts as 0. Answers the place of the last.
-pub fn numbers(bytes: &[u8], out: &mut [u64; 260]) -> usize
-    ensures { λ r. ⌜ r < 260 ⌝ }
+pub fn numbers(bytes: &[u8], out: &mut [u64; 270]) -> usize
+    ensures { λ r. ⌜ r < 270 ⌝ }
 {
     let mut place: usize = 0;
     let mut i: usize = 0;
@@ -68,12 +68,12 @@ pub fn numbers(bytes: &[u8], out: &mut [u64; 260]) -> usize
 }
 
 fn next(place: usize, byte: u8) -> usize
-    ensures { λ r. ⌜ r < 260 ⌝ }
+    ensures { λ r. ⌜ r < 270 ⌝ }
 {
     match byte {
-        b' ' => (place % 260 + 1) % 260,
-        b'\n' => (place / 26 + 1) % 10 * 26,
-        _ => place % 260,
+        b' ' => (place % 270 + 1) % 270,
+        b'\n' => (place / 27 + 1) % 10 * 27,
+        _ => place % 270,
     }
 }
 
@@ -90,8 +90,8 @@ fn with(number: u64, byte: u8) -> u64 {
 }
 
 // The numbers after a line's first word, which is the place of the last.
-pub fn to_last(numbers: &[u64; 260], last: usize) -> &[u64]
-    requires { ⌜ last < 260 ⌝ }
+pub fn to_last(numbers: &[u64; 270], last: usize) -> &[u64]
+    requires { ⌜ last < 270 ⌝ }
 {
     let all: &[u64] = numbers;
     let end = last + 1;

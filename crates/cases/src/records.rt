@@ -50,44 +50,46 @@ fn sample(quantities: &[u64]) {
     }
 }
 
-// The first row has the demand and the count of bids, each further row the bidder, the count of segments, and the segments.
+// The first row has the demand and the count of bids, each further row the bidder, the carriage, the count of
+// segments, and the segments.
 fn book(text: &[u8]) -> Book {
-    let mut n = [0u64; 260];
+    let mut n = [0u64; 270];
     pieces::numbers(text, &mut n);
     Book {
         demand: Blanks(n[0]),
         count: n[1] as usize,
         bids: [
-            bid(&n, 26),
-            bid(&n, 52),
-            bid(&n, 78),
-            bid(&n, 104),
-            bid(&n, 130),
-            bid(&n, 156),
-            bid(&n, 182),
-            bid(&n, 208),
+            bid(&n, 27),
+            bid(&n, 54),
+            bid(&n, 81),
+            bid(&n, 108),
+            bid(&n, 135),
+            bid(&n, 162),
+            bid(&n, 189),
+            bid(&n, 216),
         ],
     }
 }
 
-fn bid(n: &[u64; 260], at: usize) -> Bid
-    requires { ⌜ at ≤ 208 ⌝ }
+fn bid(n: &[u64; 270], at: usize) -> Bid
+    requires { ⌜ at ≤ 216 ⌝ }
 {
     Bid {
         bidder: n[at],
-        count: n[at + 1] as usize,
+        carriage: CentsPerBlank(n[at + 1]),
+        count: n[at + 2] as usize,
         segments: [
-            segment(n, at + 2),
-            segment(n, at + 6),
-            segment(n, at + 10),
-            segment(n, at + 14),
-            segment(n, at + 18),
-            segment(n, at + 22),
+            segment(n, at + 3),
+            segment(n, at + 7),
+            segment(n, at + 11),
+            segment(n, at + 15),
+            segment(n, at + 19),
+            segment(n, at + 23),
         ],
     }
 }
 
-fn segment(n: &[u64; 260], at: usize) -> Segment
+fn segment(n: &[u64; 270], at: usize) -> Segment
     requires { ⌜ at ≤ 250 ⌝ }
 {
     let fixed = cents(n[at + 3]);

@@ -1,4 +1,4 @@
-// Small books made by a fixed rule: demands from 1 to 8, one to three bids of one to three segments. The rule goes from a
+// Small books made by a fixed rule: demands from 1 to 8, one to three bids of one to three segments, with carriages from 0 to 3. The rule goes from a
 // number to the next, and takes several small numbers from each by division and remainder.
 ghost use Prim.Native.Nat.{_+_, _≤_};
 use book::Bid;
@@ -20,6 +20,7 @@ pub struct SmallSegment {
 // The first `count` of three segments.
 pub struct SmallBid {
     pub bidder: u64,
+    pub carriage: u64,
     pub count: usize,
     pub first: SmallSegment,
     pub second: SmallSegment,
@@ -79,6 +80,7 @@ fn bid(bidder: u64, x: u64) -> SmallBid {
     let third = segment(z, second.end);
     SmallBid {
         bidder,
+        carriage: next(z) / 3 % 4,
         count: 1 + (next(z) % 3) as usize,
         first,
         second,
@@ -116,7 +118,7 @@ fn some(x: u64, start: u64) -> u64
     }
 }
 
-// What blanks cost at a unit price from 0 to 3, as a sum: only the price rule multiplies.
+// What blanks cost at a unit price or a carriage from 0 to 3, as a sum: only the price rule multiplies.
 pub fn cost(unit: u64, blanks: u64) -> u64
     requires { ⌜ blanks ≤ 12 ⌝ }
     ensures { λ r. ⌜ r ≤ 36 ⌝ }
@@ -153,6 +155,7 @@ fn record_bid(bid: SmallBid) -> Bid {
     let c = record_segment(third);
     Bid {
         bidder: bid.bidder,
+        carriage: CentsPerBlank(bid.carriage),
         count: bid.count,
         segments: [a, b, c, a, b, c],
     }

@@ -42,15 +42,15 @@ pub fn asked(bid: SmallBid, quantity: u64) -> Offer {
     }
     let first = bid.first;
     if lies_on(first, quantity) {
-        return on_segment(1, first, quantity);
+        return on_segment(1, first, bid.carriage, quantity);
     }
     let second = bid.second;
     if 1 < bid.count && lies_on(second, quantity) {
-        return on_segment(2, second, quantity);
+        return on_segment(2, second, bid.carriage, quantity);
     }
     let third = bid.third;
     if 2 < bid.count && lies_on(third, quantity) {
-        return on_segment(3, third, quantity);
+        return on_segment(3, third, bid.carriage, quantity);
     }
     Offer {
         segment: 0,
@@ -66,8 +66,9 @@ fn lies_on(s: SmallSegment, quantity: u64) -> bool {
 }
 
 // What is off is at most the rest.
-fn on_segment(segment: u64, s: SmallSegment, quantity: u64) -> Offer {
-    let rest = small_books::cost(s.unit, quantity % 9) + s.more % 3;
+fn on_segment(segment: u64, s: SmallSegment, carriage: u64, quantity: u64) -> Offer {
+    let goods = small_books::cost(s.unit, quantity % 9) + s.more % 3;
+    let rest = goods + small_books::cost(carriage, quantity % 9);
     Offer {
         segment,
         price: std::num::wrapping_sub_u64(rest, s.off),

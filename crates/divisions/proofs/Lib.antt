@@ -4,3 +4,4 @@ pub mod IsBest
 pub mod Listed
 pub mod Award
 pub mod Without
+pub mod Carriage

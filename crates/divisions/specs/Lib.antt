@@ -2,3 +2,4 @@ pub mod Division
 pub mod Listing
 pub mod Award
 pub mod IsAward
+pub mod Stored

@@ -22,7 +22,7 @@ TotalOf b Nothing = (rs : List ℕ) → DivisionOf b rs → ⊥
 
 -- the bid with index i, in book order from 0; past the bids, where it is never asked for, one without segments
 abbrev pub bidAt : BookEntries → ℕ → BidEntries
-bidAt b i = getD (b .bids) i (record { bidder = 0; count = 0; segments = [] })
+bidAt b i = getD (b .bids) i (record { bidder = 0; carriage = 0; count = 0; segments = [] })
 
 pub record TheAward (b : BookEntries) (a : Award) : Type 0 where
   pub demand : a .demand .0 ≡ b .demand

@@ -2,8 +2,8 @@
 use Prim.Native.Nat.{ℕ, _≤_, _<_}
 use native.Mathlib.Omega.{arith}
 use mathlib.Core.Bool.{true}
-use mathlib.Core.List.{List, [], _∷_}
-use mathlib.Core.Path.{_≡_, refl}
+use mathlib.Core.List.{List, [], _∷_, map}
+use mathlib.Core.Path.{_≡_, refl, _∙_}
 use lib.IntN.{natAbs}
 use lib.ListN.{length, getD}
 use Rattle.lists.specs.All.{All}
@@ -16,33 +16,39 @@ use Rattle.book.specs.Entries.{BidEntries}
 use Rattle.book.specs.Rules.{segmentInRange, segmentsRise, startNotNegative, priceOn}
 use Rattle.book.specs.Accepted.{AcceptedBid}
 use Rattle.book.proofs.InRange.{in-range}
-use Rattle.supply.specs.Supply.{segment0, supplyOf, suppliesOf, on, offers, priceAt}
+use Rattle.supply.specs.Supply.{segment0, delivered, supplyOf, suppliesOf, on, offers, priceAt}
 use Rattle.supply.specs.Places.{FirstOn}
 use Rattle.supply.specs.Sound.{mostBlanks, SoundSegment}
 use Rattle.supply.proofs.Places.{first-on}
 use Rattle.supply.proofs.Offers.{found-there}
 use Rattle.supply.proofs.OneSegment.{segmentAt, on-high, step, price-there, one-there, inside-there}
+use Rattle.supply.proofs.Carriage.{start-delivered, delivered-rise}
 use Rattle.supply.proofs.Sound.{SoundSupply}
 
--- The ranges of an accepted book's segments, of segment 0 too.
+-- The ranges of an accepted book's segments, with carriage; segment 0 keeps them too.
+
+abbrev mostCarriage : ℕ
+mostCarriage = 10000
 
 abbrev dearest : ℕ
-dearest = 1000000
+dearest = 1010000
 
 abbrev mostFixed : ℕ
 mostFixed = 1000000000000
 
 -- and so the most that a quantity costs
 abbrev pub mostCents : ℕ
-mostCents = 2000000000000
+mostCents = 2010000000000
 
 record Limits (s : Segment) : Type 0 where
   pub end-high : s .end .0 ≤ mostBlanks
   pub unit-high : s .unit .0 ≤ dearest
   pub fixed-size : natAbs (s .fixed .0) ≤ mostFixed
 
-own-limits : (s : Segment) → segmentInRange s ≡ true → Limits s
-own-limits s e = let r = in-range s e in record { end-high = r .end-high; unit-high = r .unit-high; fixed-size = r .fixed-size }
+own-limits : (carriage : ℕ) → carriage ≤ mostCarriage → (s : Segment) → segmentInRange s ≡ true → Limits (delivered carriage s)
+own-limits carriage h s e =
+    let r = in-range s e in
+    record { end-high = r .end-high; unit-high = omega (arith, r .unit-high); fixed-size = r .fixed-size }
 
 -- Segments that rise are sound.
 
@@ -70,10 +76,23 @@ pub record Small (ss : List Segment) (r : ℕ) : Type 0 where
   pub quantity : r ≤ mostBlanks
   pub price : natAbs (priceAt ss r) ≤ mostCents
 
--- An accepted bid: segment 0 ends at 0, and its own segments rise above it.
+-- An accepted bid: segment 0 ends at 0, and its own segments, with its carriage, rise above it.
 module _ (b : BidEntries) (accepted : AcceptedBid b) where
-  ranges : All Limits (b .segments)
-  ranges = all-from _ Limits own-limits (b .segments) (all-tested segmentInRange (b .segments) (accepted .ranges))
+  abbrev own : List Segment
+  own = map (delivered (b .carriage)) (b .segments)
+
+  rises : segmentsRise 0 own ≡ true
+  rises = delivered-rise (b .carriage) 0 (b .segments) ∙ accepted .rises
+
+  ranges : All Limits own
+  ranges =
+      all-map _ Limits (b .segments)
+      (all-from _ _ (own-limits (b .carriage) (accepted .carriage-high)) (b .segments) (all-tested segmentInRange (b .segments) (accepted .ranges)))
+
+  not-negative : All (λ s. startNotNegative s ≡ true) own
+  not-negative =
+      all-map _ _ (b .segments)
+      (all-from _ _ (start-delivered (b .carriage)) (b .segments) (all-tested startNotNegative (b .segments) (accepted .not-negative)))
 
   limits : All Limits (supplyOf b)
   unfolding supplyOf
@@ -82,9 +101,9 @@ module _ (b : BidEntries) (accepted : AcceptedBid b) where
   pub sound-supply : SoundSupply (supplyOf b)
   unfolding supplyOf
   sound-supply = record {
-    each = (nothing-sound, segments-sound 0 (b .segments) (accepted .rises) ranges (all-tested startNotNegative (b .segments) (accepted .not-negative)));
-    one-price = λ s r m o. price-there segment0 (b .segments) s r (accepted .rises) m o;
-    one-inside = λ s r m o. inside-there segment0 (b .segments) s r (accepted .rises) m o;
+    each = (nothing-sound, segments-sound 0 own rises ranges not-negative);
+    one-price = λ s r m o. price-there segment0 own s r rises m o;
+    one-inside = λ s r m o. inside-there segment0 own s r rises m o;
   }
 
   pub sound-segment-at : (j : ℕ) → j < length (supplyOf b) → SoundSegment (getD (supplyOf b) j segment0)
@@ -111,7 +130,7 @@ module _ (b : BidEntries) (accepted : AcceptedBid b) where
   pub one-segment : (r j k : ℕ) → j < length (supplyOf b) → k < length (supplyOf b) → on (segmentAt (supplyOf b) j) r ≡ true
       → on (segmentAt (supplyOf b) k) r ≡ true → j ≡ k
   unfolding supplyOf
-  one-segment r j k hj hk oj ok = one-there segment0 (b .segments) j k r (accepted .rises) hj hk oj ok
+  one-segment r j k hj hk oj ok = one-there segment0 own j k r rises hj hk oj ok
 
 pub sound-supplies : (bs : List BidEntries) → All AcceptedBid bs → All SoundSupply (suppliesOf bs)
 sound-supplies bs a = all-map supplyOf SoundSupply bs (all-from AcceptedBid (λ b. SoundSupply (supplyOf b)) sound-supply bs a)

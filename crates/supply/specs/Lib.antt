@@ -1,4 +1,5 @@
 pub mod Supply
+pub mod Curve
 pub mod Sound
 pub mod Places
 pub mod Allocation

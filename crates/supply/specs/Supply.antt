@@ -1,4 +1,5 @@
--- A bid's supply function: document 000, section 3, and document 01, section "Price and allocation".
+-- A bid's supply function: document 000, section 3, document 01, section "Price and allocation", and document 02, change 2. It is all that
+-- clearing and splits see of a bid's curve and carriage.
 use Prim.Native.Nat.{ℕ, _+_}
 use mathlib.Core.Bool.{Bool, false, cond, _&&_, _||_}
 use mathlib.Core.List.{List, [], _∷_, map}
@@ -14,9 +15,13 @@ use Rattle.supply.specs.declared.Offer.the-variants.{Price, NotOffered}
 abbrev pub segment0 : Segment
 segment0 = record { start = record { 0 = 0 }; end = record { 0 = 0 }; unit = record { 0 = 0 }; fixed = record { 0 = pos 0 } }
 
--- a bid's supply function: segment 0, and then the bid's segments
+-- a segment with a carriage: r blanks cost (unit price + carriage) × r + fixed price
+abbrev pub delivered : ℕ → Segment → Segment
+delivered carriage s = record { start = s .start; end = s .end; unit = record { 0 = s .unit .0 + carriage }; fixed = s .fixed }
+
+-- a bid's supply function: segment 0, and then the bid's segments, with its carriage
 unfoldable pub supplyOf : BidEntries → List Segment
-supplyOf b = segment0 ∷ b .segments
+supplyOf b = segment0 ∷ map (delivered (b .carriage)) (b .segments)
 
 -- the supply functions of bids, in book order
 abbrev pub suppliesOf : List BidEntries → List (List Segment)

@@ -1,10 +1,10 @@
-// A bid's supply function: which quantities it offers, and at what price.
+// A bid's supply function: which quantities it offers, and at what price, carriage with it.
 ghost use mathlib.Core.Path.{_≡_};
-ghost use Prim.Native.Nat.{_<_};
+ghost use Prim.Native.Nat.{_+_, _^_, _<_};
 ghost use lib.ListN.{length, getD};
 ghost use Rattle.book.specs.Entries.{bidEntries};
 ghost use Rattle.book.specs.Accepted.{AcceptedBid};
-ghost use Rattle.supply.specs.Supply.{on, segment0, supplyOf, offerOf, segmentNumber};
+ghost use Rattle.supply.specs.Supply.{on, segment0, delivered, supplyOf, offerOf, segmentNumber};
 ghost use Rattle.supply.specs.Places.{FoundAt};
 ghost use Rattle.supply.specs.Asked.{HasSegment};
 use book::Bid;
@@ -35,6 +35,24 @@ fn on_segment(s: Segment, quantity: Blanks) -> bool
     quantity.0 <= s.end.0
 }
 
+// A segment as it is delivered: the carriage is in its unit price.
+fn delivered(s: Segment, carriage: CentsPerBlank) -> Segment
+    requires { ⌜ s .unit .0 + carriage .0 < 2 ^ 64 ⌝ }
+    ensures { λ r. ⌜ r ≡ delivered (carriage .0) s ⌝ }
+{
+    let start = s.start;
+    let end = s.end;
+    let own = s.unit;
+    let unit = money::with_carriage(own, carriage);
+    let fixed = s.fixed;
+    Segment {
+        start,
+        end,
+        unit,
+        fixed,
+    }
+}
+
 // The segment of a bid's supply function with this number; segment 0 is nothing at price 0.
 pub fn segment_of(bid: Bid, number: usize) -> Segment
     requires { ⌜ HasSegment bid number ⌝ }
@@ -49,7 +67,9 @@ pub fn segment_of(bid: Bid, number: usize) -> Segment
             fixed: Cents(0),
         };
     }
-    bid.segments[number - 1]
+    let own = bid.segments[number - 1];
+    let carriage = bid.carriage;
+    delivered(own, carriage)
 }
 
 // The first segment of a bid's supply function, segment 0 with it, that a quantity is on.

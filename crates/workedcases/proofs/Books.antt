@@ -9,8 +9,9 @@ use Rattle.book.specs.Entries.{BidEntries, BookEntries}
 abbrev pub seg : ℕ → ℕ → ℕ → ℤ → Segment
 seg start end unit fixed = record { start = record { 0 = start }; end = record { 0 = end }; unit = record { 0 = unit }; fixed = record { 0 = fixed } }
 
+-- without carriage, as stored books are
 abbrev pub bid : ℕ → List Segment → BidEntries
-bid bidder segments = record { bidder = bidder; count = length segments; segments = segments }
+bid bidder segments = record { bidder = bidder; carriage = 0; count = length segments; segments = segments }
 
 abbrev pub demand : ℕ → List BidEntries → BookEntries
 demand blanks bids = record { demand = blanks; count = length bids; bids = bids }

@@ -26,7 +26,7 @@ abbrev segmentSmall : Segment → Bool
 segmentSmall s = every small (numbers s)
 
 abbrev bidTests : BidEntries → List Bool
-bidTests b = small (b .bidder) ∷ eqb (b .count) (length (b .segments)) ∷ ltb 0 (b .count) ∷ every segmentSmall (b .segments) ∷ []
+bidTests b = small (b .bidder) ∷ small (b .carriage) ∷ eqb (b .count) (length (b .segments)) ∷ ltb 0 (b .count) ∷ every segmentSmall (b .segments) ∷ []
 
 abbrev bidSmall : BidEntries → Bool
 bidSmall b = hold (bidTests b)
@@ -50,9 +50,10 @@ bid-formed b e =
     let h = each-holds (bidTests b) e in
     record {
       bidder = few (b .bidder) (h .0);
-      count = eqb-true (b .count) (length (b .segments)) (h .1 .0);
-      some = ltb-true 0 (b .count) (h .1 .1 .0);
-      segments = all-from _ WellFormedSegment segment-formed (b .segments) (all-tested segmentSmall (b .segments) (h .1 .1 .1 .0));
+      carriage = few (b .carriage) (h .1 .0);
+      count = eqb-true (b .count) (length (b .segments)) (h .1 .1 .0);
+      some = ltb-true 0 (b .count) (h .1 .1 .1 .0);
+      segments = all-from _ WellFormedSegment segment-formed (b .segments) (all-tested segmentSmall (b .segments) (h .1 .1 .1 .1 .0));
     }
 
 pub book-formed : (b : BookEntries) → bookSmall b ≡ true → WellFormedBook b

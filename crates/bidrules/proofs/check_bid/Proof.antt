@@ -21,10 +21,10 @@ use Rattle.bidrules.proofs.check_bid.Tie as tie
 abbrev start : tie.Else1 → tie.Start
 start c = c .before .before
 
-abbrev counted : tie.Else3 → tie.Else1
-counted c = c .before .before .before .before
+abbrev counted : tie.Else4 → tie.Else1
+counted c = c .before .before .before .before .before .before
 
-abbrev ranged : tie.Else5 → tie.Else3
+abbrev ranged : tie.Else6 → tie.Else4
 ranged c = c .before .before .before .before
 
 -- what each test shows
@@ -37,18 +37,21 @@ few c = within-high 1 6 (start c .args .bid .count) (count-kept c)
 bidder-kept : (c : tie.Else2) → within 1 9999 (start (c .before .before) .args .bid .bidder) ≡ true
 bidder-kept c = passed (c .before .within2 .ensures) (c .if2 .left)
 
-segments-kept : (c : tie.Else3) → every segmentInRange (bidEntries (start (counted c) .args .bid) .segments) ≡ true
-segments-kept c = passed (c .before .all-pass .ensures) (c .if3 .left)
+carriage-kept : (c : tie.Else3) → within 0 10000 (start (c .before .before .before .before) .args .bid .carriage .0) ≡ true
+carriage-kept c = passed (c .before .within3 .ensures) (c .if3 .left)
 
-range-kept : (c : tie.Else3) → bidInRange (bidEntries (start (counted c) .args .bid)) ≡ true
+segments-kept : (c : tie.Else4) → every segmentInRange (bidEntries (start (counted c) .args .bid) .segments) ≡ true
+segments-kept c = passed (c .before .all-pass .ensures) (c .if4 .left)
+
+range-kept : (c : tie.Else4) → bidInRange (bidEntries (start (counted c) .args .bid)) ≡ true
 unfolding bidInRange
-range-kept c = rw (bidder-kept (c .before .before), segments-kept c)
+range-kept c = let carried = c .before .before in rw (bidder-kept (carried .before .before), carriage-kept carried, segments-kept c)
 
-order-kept : (c : tie.Else4) → let a = start (counted (c .before .before)) .args in ltb (a .before) (a .bid .bidder) ≡ true
-order-kept c = lt-ltb _ _ (c .if4 .left)
+order-kept : (c : tie.Else5) → let a = start (counted (c .before .before)) .args in ltb (a .before) (a .bid .bidder) ≡ true
+order-kept c = lt-ltb _ _ (c .if5 .left)
 
-rise-kept : (c : tie.Else5) → segmentsRise 0 (bidEntries (start (counted (ranged c)) .args .bid) .segments) ≡ true
-rise-kept c = passed (c .before .segments-rise .ensures) (c .if5 .left)
+rise-kept : (c : tie.Else6) → segmentsRise 0 (bidEntries (start (counted (ranged c)) .args .bid) .segments) ≡ true
+rise-kept c = passed (c .before .segments-rise .ensures) (c .if6 .left)
 
 -- rule 5 asks nothing of a segment before
 nothing-asked : (ss : List Segment) → every (askedOf InRange) ss ≡ true
@@ -64,45 +67,52 @@ returns-2 : tie.Need-returns-2
 unfolding bidVerdict bidInRange
 returns-2 c = rw (count-kept (c .before .before), failed (c .before .within2 .ensures) (c .if2 .taken))
 
-all-pass-requires : tie.Need-all-pass-requires
-all-pass-requires c κs = record { held = few (c .before .before); asked = nothing-asked _ }
-
 returns-3 : tie.Need-returns-3
 unfolding bidVerdict bidInRange
 returns-3 c =
     let e = c .before .before in
-    rw (count-kept (e .before .before), bidder-kept e, failed (c .before .all-pass .ensures) (c .if3 .taken))
+    rw (count-kept (e .before .before), bidder-kept e, failed (c .before .within3 .ensures) (c .if3 .taken))
+
+all-pass-requires : tie.Need-all-pass-requires
+all-pass-requires c κs = record { held = few (c .before .before .before .before); asked = nothing-asked _ }
 
 returns-4 : tie.Need-returns-4
-unfolding bidVerdict
+unfolding bidVerdict bidInRange
 returns-4 c =
-    let r = c .before .before in
-    rw (count-kept (counted r), range-kept r, le-ltb _ _ (c .if4 .taken))
+    let carried = c .before .before in
+    let e = carried .before .before in
+    rw (count-kept (e .before .before), bidder-kept e, carriage-kept carried, failed (c .before .all-pass .ensures) (c .if4 .taken))
 
 returns-5 : tie.Need-returns-5
 unfolding bidVerdict
 returns-5 c =
-    let a = c .before .before in
-    let r = a .before .before in
-    rw (count-kept (counted r), range-kept r, order-kept a, failed (c .before .segments-rise .ensures) (c .if5 .taken))
-
-all-pass-requires-2 : tie.Need-all-pass-requires-2
-all-pass-requires-2 c κs = let r = ranged c in record { held = few (counted r); asked = segments-kept r }
+    let r = c .before .before in
+    rw (count-kept (counted r), range-kept r, le-ltb _ _ (c .if5 .taken))
 
 returns-6 : tie.Need-returns-6
 unfolding bidVerdict
 returns-6 c =
-    let rises = c .before .before in
-    let r = ranged rises in
-    let fails = failed (c .before .all-pass2 .ensures) (c .if6 .taken) in
-    rw (count-kept (counted r), range-kept r, order-kept (rises .before .before), rise-kept rises, fails)
+    let a = c .before .before in
+    let r = a .before .before in
+    rw (count-kept (counted r), range-kept r, order-kept a, failed (c .before .segments-rise .ensures) (c .if6 .taken))
+
+all-pass-requires-2 : tie.Need-all-pass-requires-2
+all-pass-requires-2 c κs = let r = ranged c in record { held = few (counted r); asked = segments-kept r }
 
 returns-7 : tie.Need-returns-7
 unfolding bidVerdict
 returns-7 c =
     let rises = c .before .before in
     let r = ranged rises in
-    let passes = passed (c .before .all-pass2 .ensures) (c .if6 .left) in
+    let fails = failed (c .before .all-pass2 .ensures) (c .if7 .taken) in
+    rw (count-kept (counted r), range-kept r, order-kept (rises .before .before), rise-kept rises, fails)
+
+returns-8 : tie.Need-returns-8
+unfolding bidVerdict
+returns-8 c =
+    let rises = c .before .before in
+    let r = ranged rises in
+    let passes = passed (c .before .all-pass2 .ensures) (c .if7 .left) in
     rw (count-kept (counted r), range-kept r, order-kept (rises .before .before), rise-kept rises, passes)
 
 pub check-bid-spec : {M : Type 1} → statement M
@@ -113,11 +123,13 @@ check-bid-spec =
     returns
     (λ c κs. search needs)
     returns-2
-    all-pass-requires
+    (λ c κs. search needs)
     returns-3
+    all-pass-requires
     returns-4
-    (λ c κs. few (counted (c .before .before)))
     returns-5
-    all-pass-requires-2
+    (λ c κs. few (counted (c .before .before)))
     returns-6
-    returns-7)
+    all-pass-requires-2
+    returns-7
+    returns-8)

@@ -1,10 +1,15 @@
--- The supply function is segment 0 and then the bid's segments, so a number above 0 is that of the record's segment one before.
-use Prim.Native.Nat.{_≤_}
-use mathlib.Core.Path.{_≡_}
+-- The supply function is segment 0 and then the bid's segments with its carriage, so a number above 0 is that of the record's segment one
+-- before; by the ranges of an accepted bid unit price and carriage do not wrap.
+use Prim.Native.Nat.{_-_, _≤_, _<_}
+use mathlib.Core.Path.{_≡_, _∙_}
 use native.Mathlib.Omega.{arith}
 use borrow.Author.Needs.{needs}
 use lib.ListN.{length}
+use Rattle.lists.proofs.Everywhere.{every-within}
 use Rattle.lists.proofs.Slices.{length-held}
+use Rattle.book.specs.Rules.{segmentInRange}
+use Rattle.book.proofs.Records.{noSegment}
+use Rattle.book.proofs.InRange.{in-range}
 use Rattle.supply.proofs.Supply.{number-held, segment-none, segment-own}
 use Rattle.supply.proofs.segment_of.Statement.{statement}
 use Rattle.supply.proofs.segment_of.Tie as tie
@@ -19,10 +24,21 @@ returns c =
     let s = c .before in
     (number-held (s .args .t1) (held s) (s .args .number) (s .pre .within), rw (c .if1 .taken) (segment-none _))
 
+delivered-requires : tie.Need-delivered-requires
+delivered-requires c κs =
+    let own = c .before .before in
+    let s = own .before in
+    let b = s .args .t1 in
+    let below : s .args .number - 1 < b .count = omega (arith, s .pre .within, own .if1 .left) in
+    let range = in-range _ (every-within segmentInRange (b .segments) (s .args .number - 1) (b .count) noSegment below (held s) (s .pre .accepted .ranges)) in
+    omega (arith, range .unit-high, s .pre .accepted .carriage-high)
+
 returns-2 : tie.Need-returns-2
 returns-2 c =
-    let s = c .before .before in
-    (number-held (s .args .t1) (held s) (s .args .number) (s .pre .within), segment-own (s .args .t1) (s .args .number) (c .before .if1 .left) (s .pre .within))
+    let own = c .before .before .before in
+    let s = own .before in
+    let is-own = segment-own (s .args .t1) (held s) (s .args .number) (s .pre .within) (own .if1 .left) in
+    (number-held (s .args .t1) (held s) (s .args .number) (s .pre .within), c .delivered .ensures ∙ is-own)
 
 pub segment-of-spec : {M : Type 1} → statement M
-segment-of-spec = tie.close (tie.spec returns (λ c. search needs) (λ c. search needs) (λ c. search needs) returns-2)
+segment-of-spec = tie.close (tie.spec returns (λ c. search needs) (λ c. search needs) (λ c. search needs) delivered-requires returns-2)

@@ -19,7 +19,7 @@ use Rattle.bookrules.proofs.figure.room_of_bids.Tie as tie
 
 abbrev Inv-loop : tie.InvT-loop
 Inv-loop book room₀ i₀ room i =
-    (i ≤ book .count) × (room ≤ (11 + 45 * 6) * i) × (roomOfBids (bookEntries book .bids) ≡ room + roomOfBids (entriesFrom i (book .count) (book .bids)))
+    (i ≤ book .count) × (room ≤ (17 + 45 * 6) * i) × (roomOfBids (bookEntries book .bids) ≡ room + roomOfBids (entriesFrom i (book .count) (book .bids)))
 
 abbrev μ-loop : tie.MeasureT-loop
 μ-loop book room₀ i₀ room i = book .count - i
@@ -35,7 +35,7 @@ this-bid : (c : tie.In-loop Inv-loop μ-loop)
 this-bid c = bid-at (c .before .before .args .t1) (c .before .before .pre) (eight (c .before)) (c .before .loop .i) (c .loop-test .taken)
 
 room-next : (bs : List Bid) (i n : ℕ) → i < n → n ≤ length bs
-    → roomOfBids (entriesFrom i n bs) ≡ 11 + 45 * getD bs i noBid .count + roomOfBids (entriesFrom (i + 1) n bs)
+    → roomOfBids (entriesFrom i n bs) ≡ 17 + 45 * getD bs i noBid .count + roomOfBids (entriesFrom (i + 1) n bs)
 unfolding roomOfBids
 room-next bs i n h k = ap roomOfBids (entries-next bs i n h k)
 

@@ -6,7 +6,7 @@ use Rattle.cases.proofs.pieces.numbers.Statement.{statement}
 use Rattle.cases.proofs.pieces.numbers.Tie as tie
 
 abbrev Inv-loop : tie.InvT-loop
-Inv-loop bytes out₀ place₀ i₀ out place i = (i ≤ length bytes) × (place < 260)
+Inv-loop bytes out₀ place₀ i₀ out place i = (i ≤ length bytes) × (place < 270)
 
 abbrev μ-loop : tie.MeasureT-loop
 μ-loop bytes out₀ place₀ i₀ out place i = length bytes - i
