@@ -1,5 +1,5 @@
 -- The supply function of an accepted bid: its segments are sound, and how large its quantities and prices are. Assumes nothing.
-use Prim.Native.Nat.{ℕ, _≤_, _<_}
+use Prim.Native.Nat.{ℕ, _+_, _^_, _≤_, _<_}
 use native.Mathlib.Omega.{arith}
 use mathlib.Core.Bool.{true}
 use mathlib.Core.List.{List, [], _∷_, map}
@@ -8,13 +8,16 @@ use lib.IntN.{natAbs}
 use lib.ListN.{length, getD}
 use Rattle.lists.specs.All.{All}
 use Rattle.lists.proofs.All.{all-at, all-from, all-map, all-tested}
+use Rattle.lists.proofs.Everywhere.{every-within}
 use Rattle.lists.proofs.Members.{in-at}
 use Rattle.money.specs.Price.{priceOf}
 use Rattle.money.proofs.Bounds as bounds
 use Rattle.book.specs.declared.Segment.{Segment}
-use Rattle.book.specs.Entries.{BidEntries}
+use Rattle.book.specs.declared.Bid.{Bid}
+use Rattle.book.specs.Entries.{BidEntries, bidEntries}
 use Rattle.book.specs.Rules.{segmentInRange, segmentsRise, startNotNegative, priceOn}
 use Rattle.book.specs.Accepted.{AcceptedBid}
+use Rattle.book.proofs.Records.{noSegment}
 use Rattle.book.proofs.InRange.{in-range}
 use Rattle.supply.specs.Supply.{segment0, delivered, supplyOf, suppliesOf, on, offers, priceAt}
 use Rattle.supply.specs.Places.{FirstOn}
@@ -49,6 +52,13 @@ own-limits : (carriage : ℕ) → carriage ≤ mostCarriage → (s : Segment) �
 own-limits carriage h s e =
     let r = in-range s e in
     record { end-high = r .end-high; unit-high = omega (arith, r .unit-high); fixed-size = r .fixed-size }
+
+-- so that a unit price and the carriage of a record's bid do not wrap
+pub carriage-fits : (bid : Bid) → AcceptedBid (bidEntries bid) → bid .count ≤ length (bid .segments) → (i : ℕ) → i < bid .count
+    → getD (bid .segments) i noSegment .unit .0 + bid .carriage .0 < 2 ^ 64
+carriage-fits bid accepted held i h =
+    let range = in-range _ (every-within segmentInRange (bid .segments) i (bid .count) noSegment h held (accepted .ranges)) in
+    omega (arith, range .unit-high, accepted .carriage-high)
 
 -- Segments that rise are sound.
 

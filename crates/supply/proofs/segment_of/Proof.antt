@@ -1,16 +1,13 @@
 -- The supply function is segment 0 and then the bid's segments with its carriage, so a number above 0 is that of the record's segment one
 -- before; by the ranges of an accepted bid unit price and carriage do not wrap.
-use Prim.Native.Nat.{_-_, _≤_, _<_}
+use Prim.Native.Nat.{_≤_}
 use mathlib.Core.Path.{_≡_, _∙_}
 use native.Mathlib.Omega.{arith}
 use borrow.Author.Needs.{needs}
 use lib.ListN.{length}
-use Rattle.lists.proofs.Everywhere.{every-within}
 use Rattle.lists.proofs.Slices.{length-held}
-use Rattle.book.specs.Rules.{segmentInRange}
-use Rattle.book.proofs.Records.{noSegment}
-use Rattle.book.proofs.InRange.{in-range}
 use Rattle.supply.proofs.Supply.{number-held, segment-none, segment-own}
+use Rattle.supply.proofs.Accepted.{carriage-fits}
 use Rattle.supply.proofs.segment_of.Statement.{statement}
 use Rattle.supply.proofs.segment_of.Tie as tie
 
@@ -28,10 +25,7 @@ delivered-requires : tie.Need-delivered-requires
 delivered-requires c κs =
     let own = c .before .before in
     let s = own .before in
-    let b = s .args .t1 in
-    let below : s .args .number - 1 < b .count = omega (arith, s .pre .within, own .if1 .left) in
-    let range = in-range _ (every-within segmentInRange (b .segments) (s .args .number - 1) (b .count) noSegment below (held s) (s .pre .accepted .ranges)) in
-    omega (arith, range .unit-high, s .pre .accepted .carriage-high)
+    carriage-fits (s .args .t1) (s .pre .accepted) (held s) _ (omega (arith, s .pre .within, own .if1 .left, s .pre .accepted .count-low))
 
 returns-2 : tie.Need-returns-2
 returns-2 c =
