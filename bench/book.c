@@ -11,7 +11,7 @@ static const char *read_bid(const char *at, struct bid *bid)
 {
     int length = 0;
 
-    if (sscanf(at, "(bid %" SCNu64 "%n", &bid->bidder, &length) != 1) {
+    if (sscanf(at, "(bid %" SCNu64 " %" SCNu64 "%n", &bid->bidder, &bid->carriage, &length) != 2) {
         return NULL;
     }
     at += length;
@@ -28,6 +28,7 @@ static const char *read_bid(const char *at, struct bid *bid)
         if (length == 0) {
             return NULL;
         }
+        s->unit += bid->carriage;
         at += length;
     }
     return at[0] == ')' && at[1] == '\n' ? at + 2 : NULL;
@@ -87,11 +88,11 @@ __attribute__((format(printf, 2, 3))) static void put(struct text *text, const c
 
 static void put_bid(struct text *text, const struct bid *bid)
 {
-    put(text, "(bid %" PRIu64, bid->bidder);
+    put(text, "(bid %" PRIu64 " %" PRIu64, bid->bidder, bid->carriage);
     for (size_t j = 1; j <= bid->count; j++) {
         const struct segment *s = &bid->segments[j];
 
-        put(text, " (seg %" PRIu64 " %" PRIu64 " %" PRIu64 " %" PRId64 ")", s->start, s->end, s->unit, s->fixed);
+        put(text, " (seg %" PRIu64 " %" PRIu64 " %" PRIu64 " %" PRId64 ")", s->start, s->end, s->unit - bid->carriage, s->fixed);
     }
     put(text, ")\n");
 }

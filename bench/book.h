@@ -13,6 +13,7 @@ struct text {
     char bytes[TEXT_BYTES + 1]; /* with a 0 after the text */
 };
 
+/* `unit` is what a further blank costs: the unit price that the book has for the segment, and the bid's carriage. */
 struct segment {
     uint64_t start, end, unit;
     int64_t fixed;
@@ -20,7 +21,7 @@ struct segment {
 
 /* Segment 0 is quantity 0 at price 0; the first `count` after it are those of the book. */
 struct bid {
-    uint64_t bidder;
+    uint64_t bidder, carriage;
     size_t count;
     struct segment segments[SEGMENTS + 1];
 };

@@ -8,7 +8,7 @@
 
 enum { PRICES = 2, CLASSES = 32 };
 
-/* The highest price of a blank that is looked at, above every unit price. */
+/* The highest price of a blank that is looked at, above every unit price with its carriage. */
 static const int64_t HIGHEST_PRICE = INT64_C(1) << 30;
 
 /* With a segment chosen for each of some bidders: the sums of the starts, of the ends, and of the least charges by each price. As a class
@@ -142,8 +142,8 @@ static const struct segment *sold_on(const struct bid *bid, uint64_t quantity)
     return &bid->segments[j];
 }
 
-/* In the first division the unit price of a bidder who stands strictly inside its segment, or else the largest that is paid; where there is
- * none, three quarters of the first price. */
+/* In the first division the unit price, carriage included, of a bidder who stands strictly inside its segment, or else the largest that is
+ * paid; where there is none, three quarters of the first price. */
 static int64_t second_price(const struct choice *c, int64_t first)
 {
     int64_t paid = 0;

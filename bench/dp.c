@@ -5,7 +5,7 @@
 #include <stdlib.h>
 #include <string.h>
 
-/* More than every sum of prices of an accepted book, each at most 2 * 10^12, and small enough to add to. */
+/* More than every sum of prices of an accepted book, each at most 2.01 * 10^12, and small enough to add to. */
 #define NEVER (INT64_C(1) << 60)
 
 /* The places of a window whose keys rise, and the keys. */

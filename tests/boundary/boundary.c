@@ -389,8 +389,8 @@ static void check_every_length(void)
 
 static void check_books_not_covered(void)
 {
-    check_not_covered("demand 301", (struct text)TEXT(BOOK(301)), 230);
-    check_not_covered("bidder 12 alone, demand 119", (struct text)TEXT(DEMAND(119) BID_12), 73);
+    check_not_covered("demand 301", (struct text)TEXT(BOOK(301)), 248);
+    check_not_covered("bidder 12 alone, demand 119", (struct text)TEXT(DEMAND(119) BID_12), 79);
 }
 
 /* Texts that are refused */
@@ -422,15 +422,18 @@ static void check_rules(void)
 /* The rules' limits, where nothing is refused. The first fills its room figure, each number having the most bytes. */
 static void check_limits(void)
 {
-    check_accepted("the longest line", (struct text)TEXT(DEMAND(1000000) "(bid 9999 (seg 1000000 1000000 1000000 -1000000000000))\n"), 73);
-    check_accepted("the least numbers", (struct text)TEXT(DEMAND(1) "(bid 1 (seg 1 1 0 0))\n"), 73);
-    check_accepted("the widest segment", (struct text)TEXT(DEMAND(1) "(bid 1 (seg 1 1000000 0 1000000000000))\n"), 73);
-    check_accepted("six segments", (struct text)TEXT(DEMAND(1) BID(1, SIX)), 298);
-    check_accepted("eight bids", (struct text)TEXT(DEMAND(1) SEVEN_GOOD GOOD(8)), 465);
+    check_accepted("the longest line",
+                   (struct text)TEXT(DEMAND(1000000) "(bid 9999 10000 (seg 1000000 1000000 1000000 -1000000000000))\n"), 79);
+    check_accepted("the least numbers", (struct text)TEXT(DEMAND(1) "(bid 1 0 (seg 1 1 0 0))\n"), 79);
+    check_accepted("the widest segment", (struct text)TEXT(DEMAND(1) "(bid 1 0 (seg 1 1000000 0 1000000000000))\n"), 79);
+    check_accepted("price 0 at a start, and the highest carriage",
+                   (struct text)TEXT(DEMAND(120) CARRIED(3, 10000, " (seg 61 100 350 -21350)")), 79);
+    check_accepted("six segments", (struct text)TEXT(DEMAND(1) BID(1, SIX)), 304);
+    check_accepted("eight bids", (struct text)TEXT(DEMAND(1) SEVEN_GOOD GOOD(8)), 513);
     check_accepted("eight bids of six segments",
                    (struct text)TEXT(DEMAND(1) BID(1, SIX) BID(2, SIX) BID(3, SIX) BID(4, SIX) BID(5, SIX) BID(6, SIX) BID(7, SIX)
                                          BID(8, SIX)),
-                   2265);
+                   2313);
 }
 
 /* Beginnings of document 01's book. One that ends with a bid's line is itself a book, that of two bids among those that are cleared; every
@@ -443,7 +446,7 @@ static void check_beginnings(void)
     for (beginning.length = 0; beginning.length < book.length; beginning.length++)
         if (beginning.length != one_bid.length && beginning.length != two_bids.length)
             check_refused("a beginning", beginning, BOCCELARCH_SHAPE, beginning.length);
-    check_not_covered("the first bid", one_bid, 118);
+    check_not_covered("the first bid", one_bid, 124);
 }
 
 /* What follows in memory is not taken for a part of the text or of the list, even if it would fit. */
@@ -475,7 +478,7 @@ static char long_bytes[BOCCELARCH_TEXT_BYTES + 1000];
 /* The beginning, of that length, of a book whose first bid has ever more segments. A segment ends before byte 4,094. */
 static struct text endless(size_t length)
 {
-    static const struct text first = TEXT(DEMAND(120) "(bid 1 (seg 1 10 0 0)"), further = TEXT(" (seg 1 1 0 0)");
+    static const struct text first = TEXT(DEMAND(1) "(bid 1 0 (seg 1 10 0 0)"), further = TEXT(" (seg 1 1 0 0)");
     struct text text = {long_bytes, 0};
     size_t place;
 

@@ -19,12 +19,21 @@ struct text {
 #define TEXT(literal) {(literal), sizeof(literal) - 1} /* a literal may hold bytes 0 */
 
 /* Document 01's book, with the demand changed. */
-#define BID_3 "(bid 3 (seg 1 60 400 0) (seg 61 100 350 -500))\n"
-#define BID_8 "(bid 8 (seg 20 80 380 1000))\n"
-#define BID_12 "(bid 12 (seg 120 120 370 0))\n"
+#define BID_3 "(bid 3 0 (seg 1 60 400 0) (seg 61 100 350 -500))\n"
+#define BID_8 "(bid 8 0 (seg 20 80 380 1000))\n"
+#define BID_12 "(bid 12 0 (seg 120 120 370 0))\n"
 #define DEMAND(blanks) "(demand " #blanks ")\n"
 #define BOOK(blanks) DEMAND(blanks) BID_3 BID_8 BID_12
 #define TWO_BIDS DEMAND(120) BID_3 BID_8
+
+/* The same book with carriages. With q blanks of bidder 3 and the rest of bidder 8 it costs 250 * q + 49000 for q from 40 to 60, and
+ * 200 * q + 48500 for q from 61 to 100: at least 59,000, with 40. With bidder 12 it costs 520 * 120. */
+#define CARRIED_BOOK                                                                                                                      \
+    DEMAND(120)                                                                                                                           \
+    "(bid 3 250 (seg 1 60 400 0) (seg 61 100 350 -500))\n(bid 8 20 (seg 20 80 380 1000))\n(bid 12 150 (seg 120 120 370 0))\n"
+
+/* The first bidder sells a blank at 100 cents and its carriage, the second at 104. */
+#define ORDER_BOOK(carriage) DEMAND(10) "(bid 1 " #carriage " (seg 1 10 100 0))\n(bid 2 0 (seg 1 10 104 0))\n"
 
 /* Books that are cleared */
 
@@ -46,8 +55,9 @@ struct cleared {
     row(9992, covered, without), row(9993, covered, without), row(9994, covered, without), row(9995, covered, without),                   \
         row(9996, covered, without), row(9997, covered, without), row(9998, covered, without)
 
-/* Sells so many blanks at the highest prices, or nothing. */
-#define DEAR(bidder, blanks) "(bid " #bidder " (seg " #blanks " " #blanks " 1000000 1000000000000))\n"
+/* Sells so many blanks at the highest prices, or nothing; without carriage, and with the highest. */
+#define DEAR(bidder, blanks) "(bid " #bidder " 0 (seg " #blanks " " #blanks " 1000000 1000000000000))\n"
+#define DEAREST(bidder, blanks) "(bid " #bidder " 10000 (seg " #blanks " " #blanks " 1000000 1000000000000))\n"
 #define EIGHT_DEAR SEVEN_LINES(DEAR, 125000) DEAR(9999, 125000)
 
 /* Who sells 125,000 blanks for 1,125,000,000,000 cents, and who sells nothing: on the sheet, on the page and as a row. */
@@ -59,7 +69,7 @@ struct cleared {
 #define NO_SELLER(bidder, covered, without) {bidder, 0, 0, 0, 0, covered, without}
 
 static const struct cleared cleared[] = {
-    {"demand 120", TEXT(BOOK(120)), 230,
+    {"demand 120", TEXT(BOOK(120)), 248,
      TEXT("(award 120 43100)\n(buy 3 2 100 34500 20 (without 44400))\n(buy 8 1 20 8600 5 (without 44400))\n"
           "(buy 12 0 0 0 0 (without 43100))\n"),
      TEXT("                 120                                      431.00\n"
@@ -67,28 +77,28 @@ static const struct cleared cleared[] = {
           "     8   1        20               86.00     5            444.00\n"
           "    12   0         0                0.00     0            431.00\n"),
      43100, 3, {{3, 2, 100, 34500, 20, 1, 44400}, {8, 1, 20, 8600, 5, 1, 44400}, {12, 0, 0, 0, 0, 1, 43100}}},
-    {"demand 19", TEXT(BOOK(19)), 230,
+    {"demand 19", TEXT(BOOK(19)), 248,
      TEXT("(award 19 7600)\n(buy 3 1 19 7600 5 (without none))\n(buy 8 0 0 0 0 (without 7600))\n(buy 12 0 0 0 0 (without 7600))\n"),
      TEXT("                  19                                       76.00\n"
           "     3   1        19               76.00     5              none\n"
           "     8   0         0                0.00     0             76.00\n"
           "    12   0         0                0.00     0             76.00\n"),
      7600, 3, {{3, 1, 19, 7600, 5, 0, 0}, {8, 0, 0, 0, 0, 1, 7600}, {12, 0, 0, 0, 0, 1, 7600}}},
-    {"demand 60", TEXT(BOOK(60)), 230,
+    {"demand 60", TEXT(BOOK(60)), 248,
      TEXT("(award 60 23800)\n(buy 3 0 0 0 0 (without 23800))\n(buy 8 1 60 23800 13 (without 24000))\n(buy 12 0 0 0 0 (without 23800))\n"),
      TEXT("                  60                                      238.00\n"
           "     3   0         0                0.00     0            238.00\n"
           "     8   1        60              238.00    13            240.00\n"
           "    12   0         0                0.00     0            238.00\n"),
      23800, 3, {{3, 0, 0, 0, 0, 1, 23800}, {8, 1, 60, 23800, 13, 1, 24000}, {12, 0, 0, 0, 0, 1, 23800}}},
-    {"demand 61", TEXT(BOOK(61)), 230,
+    {"demand 61", TEXT(BOOK(61)), 248,
      TEXT("(award 61 20850)\n(buy 3 2 61 20850 13 (without 24180))\n(buy 8 0 0 0 0 (without 20850))\n(buy 12 0 0 0 0 (without 20850))\n"),
      TEXT("                  61                                      208.50\n"
           "     3   2        61              208.50    13            241.80\n"
           "     8   0         0                0.00     0            208.50\n"
           "    12   0         0                0.00     0            208.50\n"),
      20850, 3, {{3, 2, 61, 20850, 13, 1, 24180}, {8, 0, 0, 0, 0, 1, 20850}, {12, 0, 0, 0, 0, 1, 20850}}},
-    {"demand 181", TEXT(BOOK(181)), 230,
+    {"demand 181", TEXT(BOOK(181)), 248,
      TEXT("(award 181 65250)\n(buy 3 2 61 20850 13 (without 68580))\n(buy 8 0 0 0 0 (without 65250))\n"
           "(buy 12 1 120 44400 20 (without none))\n"),
      TEXT("                 181                                      652.50\n"
@@ -96,7 +106,7 @@ static const struct cleared cleared[] = {
           "     8   0         0                0.00     0            652.50\n"
           "    12   1       120              444.00    20              none\n"),
      65250, 3, {{3, 2, 61, 20850, 13, 1, 68580}, {8, 0, 0, 0, 0, 1, 65250}, {12, 1, 120, 44400, 20, 0, 0}}},
-    {"demand 300", TEXT(BOOK(300)), 230,
+    {"demand 300", TEXT(BOOK(300)), 248,
      TEXT("(award 300 110300)\n(buy 3 2 100 34500 20 (without none))\n(buy 8 1 80 31400 13 (without none))\n"
           "(buy 12 1 120 44400 20 (without none))\n"),
      TEXT("                 300                                     1103.00\n"
@@ -104,13 +114,13 @@ static const struct cleared cleared[] = {
           "     8   1        80              314.00    13              none\n"
           "    12   1       120              444.00    20              none\n"),
      110300, 3, {{3, 2, 100, 34500, 20, 0, 0}, {8, 1, 80, 31400, 13, 0, 0}, {12, 1, 120, 44400, 20, 0, 0}}},
-    {"two bidders at one price", TEXT("(demand 10)\n(bid 1 (seg 1 10 5 0))\n(bid 2 (seg 1 10 5 0))\n"), 129,
+    {"two bidders at one price", TEXT("(demand 10)\n(bid 1 0 (seg 1 10 5 0))\n(bid 2 0 (seg 1 10 5 0))\n"), 141,
      TEXT("(award 10 50)\n(buy 1 1 10 50 3 (without 50))\n(buy 2 0 0 0 0 (without 50))\n"),
      TEXT("                  10                                        0.50\n"
           "     1   1        10                0.50     3              0.50\n"
           "     2   0         0                0.00     0              0.50\n"),
      50, 2, {{1, 1, 10, 50, 3, 1, 50}, {2, 0, 0, 0, 0, 1, 50}}},
-    {"price 0 at a start", TEXT(DEMAND(120) "(bid 3 (seg 1 60 400 0) (seg 61 100 350 -21350))\n" BID_8 BID_12), 230,
+    {"price 0 at a start", TEXT(DEMAND(120) "(bid 3 0 (seg 1 60 400 0) (seg 61 100 350 -21350))\n" BID_8 BID_12), 248,
      TEXT("(award 120 22250)\n(buy 3 2 100 13650 20 (without 44400))\n(buy 8 1 20 8600 5 (without 44400))\n"
           "(buy 12 0 0 0 0 (without 22250))\n"),
      TEXT("                 120                                      222.50\n"
@@ -118,46 +128,80 @@ static const struct cleared cleared[] = {
           "     8   1        20               86.00     5            444.00\n"
           "    12   0         0                0.00     0            222.50\n"),
      22250, 3, {{3, 2, 100, 13650, 20, 1, 44400}, {8, 1, 20, 8600, 5, 1, 44400}, {12, 0, 0, 0, 0, 1, 22250}}},
-    {"a total of 0 is not none", TEXT("(demand 1)\n(bid 1 (seg 1 1 0 0))\n(bid 2 (seg 1 1 0 0))\n"), 129,
+    {"a total of 0 is not none", TEXT("(demand 1)\n(bid 1 0 (seg 1 1 0 0))\n(bid 2 0 (seg 1 1 0 0))\n"), 141,
      TEXT("(award 1 0)\n(buy 1 1 1 0 1 (without 0))\n(buy 2 0 0 0 0 (without 0))\n"),
      TEXT("                   1                                        0.00\n"
           "     1   1         1                0.00     1              0.00\n"
           "     2   0         0                0.00     0              0.00\n"),
      0, 2, {{1, 1, 1, 0, 1, 1, 0}, {2, 0, 0, 0, 0, 1, 0}}},
-    {"a price past 32 bits", TEXT("(demand 12000)\n(bid 1 (seg 1 12000 400000 0))\n"), 73,
+    {"a price past 32 bits", TEXT("(demand 12000)\n(bid 1 0 (seg 1 12000 400000 0))\n"), 79,
      TEXT("(award 12000 4800000000)\n(buy 1 1 12000 4800000000 315 (without none))\n"),
      TEXT("               12000                                 48000000.00\n"
           "     1   1     12000         48000000.00   315              none\n"),
      4800000000, 1, {{1, 1, 12000, 4800000000, 315, 0, 0}}},
-    {"five cents", TEXT("(demand 1)\n(bid 1 (seg 1 1 5 0))\n"), 73,
+    {"five cents", TEXT("(demand 1)\n(bid 1 0 (seg 1 1 5 0))\n"), 79,
      TEXT("(award 1 5)\n(buy 1 1 1 5 1 (without none))\n"),
      TEXT("                   1                                        0.05\n"
           "     1   1         1                0.05     1              none\n"),
      5, 1, {{1, 1, 1, 5, 1, 0, 0}}},
-    {"the first two bids", TEXT(TWO_BIDS), 174,
+    {"the first two bids", TEXT(TWO_BIDS), 186,
      TEXT("(award 120 43100)\n(buy 3 2 100 34500 20 (without none))\n(buy 8 1 20 8600 5 (without none))\n"),
      TEXT("                 120                                      431.00\n"
           "     3   2       100              345.00    20              none\n"
           "     8   1        20               86.00     5              none\n"),
      43100, 2, {{3, 2, 100, 34500, 20, 0, 0}, {8, 1, 20, 8600, 5, 0, 0}}},
-    {"eight bidders, all needed", TEXT(DEMAND(1000000) EIGHT_DEAR), 465,
+    {"eight bidders, all needed", TEXT(DEMAND(1000000) EIGHT_DEAR), 513,
      TEXT("(award 1000000 9000000000000)\n" SEVEN_LINES(SELLS, none) SELLS(9999, none)),
      TEXT("             1000000                              90000000000.00\n"
           SEVEN_LINES(PAGE_SELLS, "              none") PAGE_SELLS(9999, "              none")),
      9000000000000, 8, {SEVEN_ROWS(SELLER, 0, 0), SELLER(9999, 0, 0)}},
-    {"eight bidders, the last not needed", TEXT(DEMAND(875000) EIGHT_DEAR), 465,
+    {"eight bidders, the last not needed", TEXT(DEMAND(875000) EIGHT_DEAR), 513,
      TEXT("(award 875000 7875000000000)\n" SEVEN_LINES(SELLS, 7875000000000) SELLS_NOTHING(9999, 7875000000000)),
      TEXT("              875000                              78750000000.00\n"
           SEVEN_LINES(PAGE_SELLS, "    78750000000.00") PAGE_SELLS_NOTHING(9999, "    78750000000.00")),
      7875000000000, 8, {SEVEN_ROWS(SELLER, 1, 7875000000000), NO_SELLER(9999, 1, 7875000000000)}},
     {"each number at its widest",
-     TEXT(DEMAND(1000000) SEVEN_LINES(DEAR, 1000000) "(bid 9999 (seg 1000000 1000000 1000000 999999999999))\n"), 465,
+     TEXT(DEMAND(1000000) SEVEN_LINES(DEAR, 1000000) "(bid 9999 0 (seg 1000000 1000000 1000000 999999999999))\n"), 513,
      TEXT("(award 1000000 1999999999999)\n" SEVEN_LINES(SELLS_NOTHING, 1999999999999)
           "(buy 9999 1 1000000 1999999999999 1250 (without 2000000000000))\n"),
      TEXT("             1000000                              19999999999.99\n"
           SEVEN_LINES(PAGE_SELLS_NOTHING, "    19999999999.99")
           "  9999   1   1000000      19999999999.99  1250    20000000000.00\n"),
      1999999999999, 8, {SEVEN_ROWS(NO_SELLER, 1, 1999999999999), {9999, 1, 1000000, 1999999999999, 1250, 1, 2000000000000}}},
+    {"carriages", TEXT(CARRIED_BOOK), 248,
+     TEXT("(award 120 59000)\n(buy 3 1 40 26000 8 (without 62400))\n(buy 8 1 80 33000 13 (without 62400))\n"
+          "(buy 12 0 0 0 0 (without 59000))\n"),
+     TEXT("                 120                                      590.00\n"
+          "     3   1        40              260.00     8            624.00\n"
+          "     8   1        80              330.00    13            624.00\n"
+          "    12   0         0                0.00     0            590.00\n"),
+     59000, 3, {{3, 1, 40, 26000, 8, 1, 62400}, {8, 1, 80, 33000, 13, 1, 62400}, {12, 0, 0, 0, 0, 1, 59000}}},
+    {"carriage 3: the first is cheaper", TEXT(ORDER_BOOK(3)), 141,
+     TEXT("(award 10 1030)\n(buy 1 1 10 1030 3 (without 1040))\n(buy 2 0 0 0 0 (without 1030))\n"),
+     TEXT("                  10                                       10.30\n"
+          "     1   1        10               10.30     3             10.40\n"
+          "     2   0         0                0.00     0             10.30\n"),
+     1030, 2, {{1, 1, 10, 1030, 3, 1, 1040}, {2, 0, 0, 0, 0, 1, 1030}}},
+    {"carriage 4: two bidders at one price", TEXT(ORDER_BOOK(4)), 141,
+     TEXT("(award 10 1040)\n(buy 1 1 10 1040 3 (without 1040))\n(buy 2 0 0 0 0 (without 1040))\n"),
+     TEXT("                  10                                       10.40\n"
+          "     1   1        10               10.40     3             10.40\n"
+          "     2   0         0                0.00     0             10.40\n"),
+     1040, 2, {{1, 1, 10, 1040, 3, 1, 1040}, {2, 0, 0, 0, 0, 1, 1040}}},
+    {"carriage 5: the second is cheaper", TEXT(ORDER_BOOK(5)), 141,
+     TEXT("(award 10 1040)\n(buy 1 0 0 0 0 (without 1040))\n(buy 2 1 10 1040 3 (without 1050))\n"),
+     TEXT("                  10                                       10.40\n"
+          "     1   0         0                0.00     0             10.40\n"
+          "     2   1        10               10.40     3             10.50\n"),
+     1040, 2, {{1, 0, 0, 0, 0, 1, 1040}, {2, 1, 10, 1040, 3, 1, 1050}}},
+    {"each number at its widest, and the highest carriage",
+     TEXT(DEMAND(1000000) SEVEN_LINES(DEAREST, 1000000) "(bid 9999 10000 (seg 1000000 1000000 1000000 999999999999))\n"), 513,
+     TEXT("(award 1000000 2009999999999)\n" SEVEN_LINES(SELLS_NOTHING, 2009999999999)
+          "(buy 9999 1 1000000 2009999999999 1250 (without 2010000000000))\n"),
+     TEXT("             1000000                              20099999999.99\n"
+          SEVEN_LINES(PAGE_SELLS_NOTHING, "    20099999999.99")
+          "  9999   1   1000000      20099999999.99  1250    20100000000.00\n"),
+     2009999999999, 8, {SEVEN_ROWS(NO_SELLER, 1, 2009999999999), {9999, 1, 1000000, 2009999999999, 1250, 1, 2010000000000}}},
 };
 
 /* Texts that are refused */
@@ -170,7 +214,7 @@ struct refused {
 
 /* A text that stops being of the shape where `good` ends. */
 #define STOPS(name, good, rest) {name, TEXT(good rest), BOCCELARCH_SHAPE, sizeof(good) - 1}
-#define IN_SEGMENT DEMAND(120) "(bid 3 (seg 1 60 "
+#define IN_SEGMENT DEMAND(120) "(bid 3 0 (seg 1 60 "
 
 static const struct refused shapes[] = {
     {"empty text", TEXT(""), BOCCELARCH_SHAPE, 0},
@@ -189,9 +233,24 @@ static const struct refused shapes[] = {
     STOPS("no bids", DEMAND(120), ""),
     STOPS("an empty line", DEMAND(120), "\n" BID_3),
     STOPS("two demands", DEMAND(120) "(", "demand 120)\n" BID_3),
-    STOPS("a bidder with a minus", DEMAND(120) "(bid ", "-3 (seg 1 60 400 0))\n"),
-    STOPS("a bidder with a leading zero", DEMAND(120) "(bid 0", "3 (seg 1 60 400 0))\n"),
-    STOPS("a bid without segments", DEMAND(120) "(bid 3", ")\n"),
+    STOPS("a bidder with a minus", DEMAND(120) "(bid ", "-3 0 (seg 1 60 400 0))\n"),
+    STOPS("a bidder with a leading zero", DEMAND(120) "(bid 0", "3 0 (seg 1 60 400 0))\n"),
+    {"a book in the old form, without carriages",
+     TEXT("(demand 120)\n(bid 3 (seg 1 60 400 0) (seg 61 100 350 -500))\n(bid 8 (seg 20 80 380 1000))\n(bid 12 (seg 120 120 370 0))\n"),
+     BOCCELARCH_SHAPE, 20},
+    STOPS("a bid in the old form after others", DEMAND(120) BID_3 BID_8 "(bid 12 ", "(seg 120 120 370 0))\n"),
+    STOPS("a bid of a bidder alone", DEMAND(120) "(bid 3", ")\n"),
+    STOPS("a carriage that is missing", DEMAND(120) "(bid 3 ", ")\n"),
+    STOPS("nothing after the bidder's space", DEMAND(120) "(bid 3 ", ""),
+    STOPS("a carriage with a minus", DEMAND(120) "(bid 3 ", "-250 (seg 1 60 400 0))\n"),
+    STOPS("a carriage with a leading zero", DEMAND(120) "(bid 3 0", "250 (seg 1 60 400 0))\n"),
+    STOPS("a carriage of fourteen digits", DEMAND(120) "(bid 3 1234567890123", "4 (seg 1 60 400 0))\n"),
+    STOPS("two spaces before a carriage", DEMAND(120) "(bid 3 ", " 250 (seg 1 60 400 0))\n"),
+    STOPS("two spaces after a carriage", DEMAND(120) "(bid 3 250 ", " (seg 1 60 400 0))\n"),
+    STOPS("no space after a carriage", DEMAND(120) "(bid 3 250", "(seg 1 60 400 0))\n"),
+    STOPS("two carriages", DEMAND(120) "(bid 3 250 ", "20 (seg 1 60 400 0))\n"),
+    STOPS("a further carriage after the segment", DEMAND(120) "(bid 3 250 (seg 1 60 400 0) ", "250)\n"),
+    STOPS("a bid without segments", DEMAND(120) "(bid 3 0", ")\n"),
     STOPS("a unit price with a minus", IN_SEGMENT, "-400 0))\n"),
     STOPS("three numbers in a segment", IN_SEGMENT "400", "))\n"),
     STOPS("five numbers in a segment", IN_SEGMENT "400 0", " 0))\n"),
@@ -216,8 +275,10 @@ static const struct refused shapes[] = {
 #define FAULT_8 " (seg 1 1 5 -6)"
 #define SIX " (seg 11 11 5 0) (seg 12 12 5 0) (seg 13 13 5 0) (seg 14 14 5 0) (seg 15 15 5 0) (seg 16 16 5 0)"
 #define SEVEN SIX " (seg 17 17 5 0)"
-#define BID(bidder, segments) "(bid " #bidder segments ")\n"
+#define CARRIED(bidder, carriage, segments) "(bid " #bidder " " #carriage segments ")\n"
+#define BID(bidder, segments) CARRIED(bidder, 0, segments)
 #define GOOD(bidder) BID(bidder, " (seg 1 1 5 0)")
+#define TOO_FAR(bidder, segments) CARRIED(bidder, 10001, segments) /* a carriage out of range */
 #define SEVEN_GOOD GOOD(1) GOOD(2) GOOD(3) GOOD(4) GOOD(5) GOOD(6) GOOD(7)
 #define BEFORE DEMAND(1) GOOD(8) /* lines 1 and 2 */
 
@@ -231,6 +292,10 @@ static const struct refused rules[] = {
     {"a demand of thirteen digits", TEXT(BOOK(9999999999999)), 5, 1},
     {"bidder 0", TEXT(DEMAND(1) GOOD(0)), 5, 2},
     {"bidder 10000", TEXT(BEFORE GOOD(10000)), 5, 3},
+    {"carriage 10001", TEXT(DEMAND(1) TOO_FAR(8, " (seg 1 1 5 0)")), 5, 2},
+    {"carriage 10001 in the second bid", TEXT(BEFORE TOO_FAR(9, " (seg 1 1 5 0)")), 5, 3},
+    {"a carriage of thirteen digits", TEXT(DEMAND(1) CARRIED(8, 9999999999999, " (seg 1 1 5 0)")), 5, 2},
+    {"a carriage past 32 bits", TEXT(DEMAND(1) CARRIED(8, 4294967296, " (seg 1 1 5 0)")), 5, 2},
     {"start 0", TEXT(DEMAND(1) BID(8, " (seg 0 1 5 0)")), 5, 2},
     {"end 1000001", TEXT(DEMAND(1) BID(8, " (seg 1 1000001 5 0)")), 5, 2},
     {"unit price 1000001", TEXT(DEMAND(1) BID(8, FAULT_5)), 5, 2},
@@ -244,18 +309,25 @@ static const struct refused rules[] = {
     {"segments turned round", TEXT(DEMAND(120) BID(3, " (seg 61 100 350 -500) (seg 1 60 400 0)")), 7, 2},
     {"fixed price -21351", TEXT(DEMAND(120) BID(3, " (seg 1 60 400 0) (seg 61 100 350 -21351)") BID_8 BID_12), 8, 2},
     {"a negative price in the third bid", TEXT(BEFORE GOOD(9) BID(10, FAULT_8)), 8, 4},
+    {"a negative price but for the carriage", TEXT(DEMAND(1) CARRIED(8, 10000, FAULT_8)), 8, 2},
+    {"fixed price -21351, and the highest carriage", TEXT(DEMAND(120) CARRIED(3, 10000, " (seg 61 100 350 -21351)") BID_8), 8, 2},
 
     /* Several in a line: the lowest number, wherever it stands. */
     {"3 and 4", TEXT(DEMAND(1) SEVEN_GOOD GOOD(8) BID(9, SEVEN)), 3, 10},
     {"3 and 5", TEXT(DEMAND(1) SEVEN_GOOD GOOD(8) BID(9, FAULT_5)), 3, 10},
+    {"3 and 5, the carriage", TEXT(DEMAND(1) SEVEN_GOOD GOOD(8) TOO_FAR(9, " (seg 1 1 5 0)")), 3, 10},
     {"3 and 6", TEXT(DEMAND(1) SEVEN_GOOD GOOD(8) GOOD(8)), 3, 10},
     {"3 and 7", TEXT(DEMAND(1) SEVEN_GOOD GOOD(8) BID(9, FAULT_7)), 3, 10},
     {"3 and 8", TEXT(DEMAND(1) SEVEN_GOOD GOOD(8) BID(9, FAULT_8)), 3, 10},
     {"4 and 5", TEXT(BEFORE BID(9, FAULT_5 SIX)), 4, 3},
+    {"4 and 5, the carriage", TEXT(BEFORE TOO_FAR(9, SEVEN)), 4, 3},
     {"4 and 6", TEXT(BEFORE BID(8, SEVEN)), 4, 3},
     {"4 and 7", TEXT(BEFORE BID(9, FAULT_7 SIX)), 4, 3},
     {"4 and 8", TEXT(BEFORE BID(9, FAULT_8 SIX)), 4, 3},
     {"5 and 6", TEXT(BEFORE BID(8, FAULT_5)), 5, 3},
+    {"5, the carriage, and 6", TEXT(BEFORE TOO_FAR(8, " (seg 1 1 5 0)")), 5, 3},
+    {"5, the carriage, and 7", TEXT(BEFORE TOO_FAR(9, FAULT_7)), 5, 3},
+    {"5, the carriage, and 8", TEXT(BEFORE TOO_FAR(9, FAULT_8)), 5, 3},
     {"5 and 7", TEXT(BEFORE BID(9, FAULT_7 " (seg 3 3 1000001 0)")), 5, 3},
     {"5 and 8", TEXT(BEFORE BID(9, FAULT_8 " (seg 3 3 1000001 0)")), 5, 3},
     {"6 and 7", TEXT(BEFORE BID(8, FAULT_7)), 6, 3},
@@ -267,6 +339,7 @@ static const struct refused rules[] = {
     {"5 in line 1, 4 in line 2", TEXT(DEMAND(0) BID(8, SEVEN)), 5, 1},
     {"5 in line 1, 3 in line 10", TEXT(DEMAND(0) SEVEN_GOOD GOOD(8) GOOD(9)), 5, 1},
     {"8 in line 2, 4 in line 3", TEXT(DEMAND(1) BID(8, FAULT_8) BID(9, SEVEN)), 8, 2},
+    {"8 in line 2, 5 in line 3, the carriage", TEXT(DEMAND(1) BID(8, FAULT_8) TOO_FAR(9, " (seg 1 1 5 0)")), 8, 2},
     {"6 in line 3, 5 in line 4", TEXT(BEFORE GOOD(8) BID(9, FAULT_5)), 6, 3},
     {"8 in line 9, 3 in line 10", TEXT(DEMAND(1) SEVEN_GOOD BID(8, FAULT_8) GOOD(9)), 8, 9},
     {"7 in line 8, 8 in line 9", TEXT(DEMAND(1) GOOD(1) GOOD(2) GOOD(3) GOOD(4) GOOD(5) GOOD(6) BID(7, FAULT_7) BID(8, FAULT_8)), 7, 8},
@@ -280,7 +353,7 @@ struct split {
     uint64_t meets;
 };
 
-#define GAP "(demand 100)\n(bid 1 (seg 1 50 10 0) (seg 61 100 9 0))\n"
+#define GAP "(demand 100)\n(bid 1 0 (seg 1 50 10 0) (seg 61 100 9 0))\n"
 
 static const struct {
     const char *name;
@@ -314,7 +387,14 @@ static const struct {
     {"51 in a gap", TEXT(GAP), {51}, 1, {11, 2, 0, 0}},
     {"60 in a gap", TEXT(GAP), {60}, 1, {11, 2, 0, 0}},
     {"61 after a gap", TEXT(GAP), {61}, 1, {0, 0, 549, 0}},
-    {"a price past 32 bits", TEXT("(demand 12000)\n(bid 1 (seg 1 12000 400000 0))\n"), {12000}, 1, {0, 0, 4800000000, 1}},
+    {"a price past 32 bits", TEXT("(demand 12000)\n(bid 1 0 (seg 1 12000 400000 0))\n"), {12000}, 1, {0, 0, 4800000000, 1}},
+    {"carriages, 60 60 0", TEXT(CARRIED_BOOK), {60, 60, 0}, 3, {0, 0, 64000, 1}},
+    {"carriages, the award", TEXT(CARRIED_BOOK), {40, 80, 0}, 3, {0, 0, 59000, 1}},
+    {"carriages, 100 20 0", TEXT(CARRIED_BOOK), {100, 20, 0}, 3, {0, 0, 68500, 1}},
+    {"carriages, 60 59 0", TEXT(CARRIED_BOOK), {60, 59, 0}, 3, {0, 0, 63600, 0}},
+    {"carriages, all zeros", TEXT(CARRIED_BOOK), {0, 0, 0}, 3, {0, 0, 0, 0}},
+    {"carriages, 60 10 0", TEXT(CARRIED_BOOK), {60, 10, 0}, 3, {11, 3, 0, 0}},
+    {"the highest price", TEXT(DEMAND(1000000) DEAREST(9999, 1000000)), {1000000}, 1, {0, 0, 2010000000000, 1}},
 };
 
 #endif

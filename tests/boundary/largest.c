@@ -14,7 +14,7 @@
 #include "boccelarch.h"
 #include "checks.h"
 
-enum { BIDS = 8, SEGMENTS = 6, ROOM = 17 + BIDS * (11 + SEGMENTS * 45) };
+enum { BIDS = 8, SEGMENTS = 6, ROOM = 17 + BIDS * (17 + SEGMENTS * 45) };
 
 /* Texts */
 
@@ -47,24 +47,25 @@ static void append_segment(struct text *book, unsigned bid, unsigned segment)
     append(book, " (seg %u %u %u %u)", start, end, 430 - 3 * bid - 7 * segment, 300 * bid + 20000 * segment);
 }
 
-static void append_bid(struct text *book, unsigned bid)
+static void append_bid(struct text *book, unsigned bid, unsigned carriage)
 {
     unsigned segment;
 
-    append(book, "(bid %u", 1 + bid);
+    append(book, "(bid %u %u", 1 + bid, carriage);
     for (segment = 0; segment < SEGMENTS; segment++)
         append_segment(book, bid, segment);
     append(book, ")\n");
 }
 
-static void make_book(struct text *book, uint64_t demand)
+/* The first bid has this carriage, and each further one so much more. */
+static void make_book(struct text *book, uint64_t demand, unsigned carriage, unsigned more)
 {
     unsigned bid;
 
     book->length = 0;
     append(book, "(demand %" PRIu64 ")\n", demand);
     for (bid = 0; bid < BIDS; bid++)
-        append_bid(book, bid);
+        append_bid(book, bid, carriage + more * bid);
 }
 
 /* What the entries answer */
@@ -245,14 +246,14 @@ static void check_answers(const struct answers *a, uint64_t demand, uint64_t tot
 }
 
 /* `covered`: without how many of the bidders, each taken out alone, the demand is covered. */
-static void check_book(uint64_t demand, uint64_t total, uint64_t covered)
+static void check_book(uint64_t demand, unsigned carriage, unsigned more, uint64_t total, uint64_t covered)
 {
     static struct text book;
     static struct answers answers;
 
-    make_book(&book, demand);
+    make_book(&book, demand, carriage, more);
     answers.book = &book;
-    snprintf(situation, sizeof situation, "demand %" PRIu64, demand);
+    snprintf(situation, sizeof situation, "demand %" PRIu64 ", carriage %u and %u more for each bid", demand, carriage, more);
     call_entries_in_thread(&answers);
     check_answers(&answers, demand, total, covered);
 }
@@ -261,8 +262,14 @@ int main(void)
 {
     setvbuf(stdout, NULL, _IOLBF, 0); /* the lines of failures stand even if a call ends the program */
     /* The totals are those of the cheapest price of each quantity, found with one bid more after another. */
-    check_book(35000, 13504960, 8);
-    check_book(106500, 41491240, 4); /* of 121,680 that the bids sell together; the fourth sells 15,180, the fifth 15,240 */
+    check_book(35000, 0, 0, 13504960, 8);
+    check_book(106500, 0, 0, 41491240, 4); /* of 121,680 that the bids sell together; the fourth sells 15,180, the fifth 15,240 */
+    /* The same carriage for all: for each blank of the demand so much more. */
+    check_book(35000, 10000, 0, 13504960 + UINT64_C(350000000), 8);
+    check_book(106500, 10000, 0, 41491240 + UINT64_C(1065000000), 4);
+    /* Carriages that make later bidders the dearer ones. */
+    check_book(35000, 0, 6, 14246884, 8);
+    check_book(106500, 0, 6, 43750720, 4);
     printf("%lu passed, %lu failed\n", passed, failed);
     return failed > 0;
 }

@@ -13,6 +13,7 @@ pub struct Segment {
 #[derive(Clone, Debug, PartialEq)]
 pub struct Bid {
     pub bidder: i64,
+    pub carriage: i64,
     pub segments: Vec<Segment>,
 }
 
@@ -37,11 +38,12 @@ impl Segment {
         self.start <= quantity && quantity <= self.end
     }
 
-    pub fn price(&self, quantity: i64) -> i64 {
-        self.unit * quantity + self.fixed
+    /// The price of a quantity with the bid's carriage, which comes on top of the unit price.
+    pub fn price(&self, carriage: i64, quantity: i64) -> i64 {
+        (self.unit + carriage) * quantity + self.fixed
     }
 
-    /// In 128 bits, since a refused number may have thirteen digits.
+    /// Without carriage, as rule 8 looks at it. In 128 bits, since a refused number may have thirteen digits.
     fn price_at_start(&self) -> i128 {
         i128::from(self.unit) * i128::from(self.start) + i128::from(self.fixed)
     }
@@ -59,7 +61,8 @@ fn quantity_in_range(quantity: i64) -> bool {
 
 impl Bid {
     fn out_of_range(&self) -> bool {
-        !(1..=9_999).contains(&self.bidder) || self.segments.iter().any(Segment::out_of_range)
+        let own = (1..=9_999).contains(&self.bidder) && (0..=10_000).contains(&self.carriage);
+        !own || self.segments.iter().any(Segment::out_of_range)
     }
 
     fn disordered(&self) -> bool {
@@ -80,7 +83,7 @@ impl Bid {
         let number = self.segment_of(quantity)?;
         match number {
             0 => Some(0),
-            _ => Some(self.segments[number - 1].price(quantity)),
+            _ => Some(self.segments[number - 1].price(self.carriage, quantity)),
         }
     }
 }
@@ -137,7 +140,7 @@ impl Book {
 
     pub fn room(&self) -> u64 {
         let segments: usize = self.bids.iter().map(|bid| bid.segments.len()).sum();
-        (17 + 11 * self.bids.len() + 45 * segments) as u64
+        (17 + 17 * self.bids.len() + 45 * segments) as u64
     }
 
     /// The price of a split and whether its quantities add up to the demand.
@@ -165,14 +168,14 @@ fn numbers(line: &str) -> Vec<i64> {
 }
 
 fn bid_of(line: &[i64]) -> Bid {
-    let fours = line[1..].chunks_exact(4);
+    let fours = line[2..].chunks_exact(4);
     let segments = fours.map(|n| Segment { start: n[0], end: n[1], unit: n[2], fixed: n[3] });
-    Bid { bidder: line[0], segments: segments.collect() }
+    Bid { bidder: line[0], carriage: line[1], segments: segments.collect() }
 }
 
 fn bid_line(bid: &Bid) -> String {
     let segments: String = bid.segments.iter().map(segment_form).collect();
-    format!("(bid {}{segments})\n", bid.bidder)
+    format!("(bid {} {}{segments})\n", bid.bidder, bid.carriage)
 }
 
 fn segment_form(s: &Segment) -> String {

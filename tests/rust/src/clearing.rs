@@ -45,18 +45,19 @@ impl Window {
 
 /// Lowers `least` by what buying a quantity on this segment, and the rest from the bidders after it, costs.
 ///
-/// With k blanks from those after it, q cost unit × q + fixed + (rest[k] − unit × k): for each q the least of the brackets over
-/// k from q − end to q − start, a window that slides with q.
-fn lower(least: &mut [i64], rest: &[i64], segment: &Segment) {
+/// A blank costs unit price + carriage. With k blanks from those after it, q cost blank × q + fixed + (rest[k] − blank × k): for each q
+/// the least of the brackets over k from q − end to q − start, a window that slides with q.
+fn lower(least: &mut [i64], rest: &[i64], segment: &Segment, carriage: i64) {
     let (start, end) = (segment.start as usize, segment.end as usize);
+    let blank = segment.unit + carriage;
     let mut window = Window::default();
     for (quantity, least) in least.iter_mut().enumerate().skip(start) {
         let entering = quantity - start;
         if rest[entering] != NO_WAY {
-            window.add(rest[entering] - segment.unit * entering as i64, entering);
+            window.add(rest[entering] - blank * entering as i64, entering);
         }
         if let Some(bracket) = window.least_from(quantity.saturating_sub(end)) {
-            let price = segment.price(quantity as i64) + bracket;
+            let price = segment.price(carriage, quantity as i64) + bracket;
             *least = price.min(*least);
         }
     }
@@ -65,7 +66,7 @@ fn lower(least: &mut [i64], rest: &[i64], segment: &Segment) {
 fn with_bidder(bid: &Bid, rest: &[i64]) -> Vec<i64> {
     let mut least = rest.to_vec();
     for segment in &bid.segments {
-        lower(&mut least, rest, segment);
+        lower(&mut least, rest, segment, bid.carriage);
     }
     least
 }

@@ -15,9 +15,11 @@ pub struct Counts {
     pub texts: u64,
     pub calls: u64,
     pub different: u64,
-    /// Texts that are books, of these the ones cleared, and of their totals without a bidder the `none`.
+    /// Texts that are books, of these the ones cleared, of these the ones with a carriage above 0, and of their totals without a bidder
+    /// the `none`.
     pub accepted: u64,
     pub cleared: u64,
+    pub carried: u64,
     pub none: u64,
     /// Pages of the product that were read back.
     pub pages: u64,
@@ -73,8 +75,9 @@ impl Comparer {
     /// Counts what kind of text it was.
     fn note(&mut self, judged: &Judged) {
         self.counts.accepted += u64::from(judged.reading.is_ok());
-        if let Some(award) = judged.known_award() {
+        if let Some((book, award)) = judged.known_award() {
             self.counts.cleared += 1;
+            self.counts.carried += u64::from(book.bids.iter().any(|bid| bid.carriage > 0));
             self.counts.none += award.without.iter().filter(|total| total.is_none()).count() as u64;
         }
     }

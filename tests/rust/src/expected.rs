@@ -29,10 +29,9 @@ impl Judged {
         self.cleared.get_or_init(clear).as_ref().map_err(|refused| *refused)
     }
 
-    /// The award, if some call asked for it and there is one.
-    pub fn known_award(&self) -> Option<&Award> {
-        let cleared = self.cleared.get()?.as_ref();
-        cleared.ok().map(|both| &both.1)
+    /// The book and its award, if some call asked for it and there is one.
+    pub fn known_award(&self) -> Option<&(Book, Award)> {
+        self.cleared.get()?.as_ref().ok()
     }
 
     fn book(&self) -> Result<&Book, Refusal> {

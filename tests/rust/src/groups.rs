@@ -10,7 +10,7 @@ use crate::random::Random;
 
 pub type Group = (&'static str, fn(&mut Comparer, &mut Random));
 
-pub const GROUPS: [Group; 28] = [
+pub const GROUPS: [Group; 30] = [
     ("the paper's book, every demand", paper_book),
     ("small books", small_books),
     ("small books with ties", tied_books),
@@ -39,14 +39,16 @@ pub const GROUPS: [Group; 28] = [
     ("hard books: one giant bidder", giant),
     ("hard books: multiples of a step and a demand that is none", parity),
     ("hard books: prices near a line", noise),
+    ("books in which carriage decides the order", carried),
+    ("other carriages, and bids in the old form", carriages),
 ];
 
 /// Books of eight bids of six segments for each family.
 const FULL_OF_A_FAMILY: usize = 25;
 
-const PAPER: &str = "(bid 3 (seg 1 60 400 0) (seg 61 100 350 -500))
-(bid 8 (seg 20 80 380 1000))
-(bid 12 (seg 120 120 370 0))
+const PAPER: &str = "(bid 3 0 (seg 1 60 400 0) (seg 61 100 350 -500))
+(bid 8 0 (seg 20 80 380 1000))
+(bid 12 0 (seg 120 120 370 0))
 ";
 
 fn paper_text(demand: u64) -> Vec<u8> {
@@ -187,14 +189,15 @@ fn edits_of(comparer: &mut Comparer, random: &mut Random, text: &[u8], values: &
 
 fn edits_all(comparer: &mut Comparer, random: &mut Random) {
     let all: Vec<u8> = (0..=255).collect();
-    edits_of(comparer, random, b"(demand 7)\n(bid 4 (seg 2 9 3 -5))\n", &all);
+    edits_of(comparer, random, b"(demand 7)\n(bid 4 0 (seg 2 9 3 -5))\n", &all);
 }
 
 fn edits_relevant(comparer: &mut Comparer, random: &mut Random) {
-    let texts: [&[u8]; 3] = [
-        b"(demand 0)\n(bid 0 (seg 0 0 0 0))\n",
-        b"(demand 9999999999999)\n(bid 1 (seg 1 1000000 1000000 -1000000000000))\n",
-        b"(demand 10)\n(bid 1 (seg 1 10 5 0))\n(bid 2 (seg 1 10 5 0) (seg 12 20 4 -48))\n",
+    let texts: [&[u8]; 4] = [
+        b"(demand 0)\n(bid 0 0 (seg 0 0 0 0))\n",
+        b"(demand 9999999999999)\n(bid 1 0 (seg 1 1000000 1000000 -1000000000000))\n",
+        b"(demand 10)\n(bid 1 0 (seg 1 10 5 0))\n(bid 2 0 (seg 1 10 5 0) (seg 12 20 4 -48))\n",
+        b"(demand 10)\n(bid 1 10000 (seg 1 10 5 0))\n(bid 2 250 (seg 1 10 9755 -9755))\n",
     ];
     for text in texts {
         edits_of(comparer, random, text, bytes::RELEVANT);
@@ -340,6 +343,18 @@ fn family(comparer: &mut Comparer, random: &mut Random, make: Family) {
 fn family_of_size(comparer: &mut Comparer, random: &mut Random, make: Family, size: &families::Size, count: usize) {
     for _ in 0..count {
         let text = make(random, size).written();
+        usual(comparer, random, &text);
+    }
+}
+
+fn carried(comparer: &mut Comparer, random: &mut Random) {
+    family(comparer, random, families::carriage);
+}
+
+fn carriages(comparer: &mut Comparer, random: &mut Random) {
+    for _ in 0..15_000 {
+        let book = books::book(random, &books::SMALL).written();
+        let text = bytes::carriage_replaced(random, &book);
         usual(comparer, random, &text);
     }
 }

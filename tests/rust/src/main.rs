@@ -21,10 +21,11 @@ mod selftest;
 mod shape;
 mod sheet;
 
-use compare::Comparer;
+use compare::{Comparer, Counts};
 use std::process::ExitCode;
 
 const TEXTS_WANTED: usize = 100_000;
+const CARRIED_WANTED: u64 = 50_000;
 
 fn run_groups(comparer: &mut Comparer) {
     for (seed, (name, group)) in groups::GROUPS.into_iter().enumerate() {
@@ -64,7 +65,12 @@ fn main() -> ExitCode {
         good = false;
     }
     let counts = comparer.counts;
-    println!("{} accepted, {} cleared, {} totals `none`", counts.accepted, counts.cleared, counts.none);
+    let Counts { accepted, cleared, carried, none, .. } = counts;
+    println!("{accepted} accepted, {cleared} cleared, {carried} of these with a carriage above 0, {none} totals `none`");
+    if carried < CARRIED_WANTED {
+        println!("FAILED: fewer than {CARRIED_WANTED} cleared books with a carriage above 0");
+        good = false;
+    }
     println!("{} texts, {} calls compared, {} pages read back, {} different", counts.texts, counts.calls, counts.pages, counts.different);
     println!("{} passed, {} failed", counts.calls + counts.pages - counts.different, counts.different);
     ExitCode::from(u8::from(!good || counts.different > 0))

@@ -1,5 +1,5 @@
-//! The check of the reference and of the comparison: the reference against what the paper prints and against a listing of all divisions,
-//! and the comparison against answers that were altered.
+//! The check of the reference and of the comparison: the reference against what the paper prints, against cases with carriage that were
+//! worked out by hand and against a listing of all divisions, and the comparison against answers that were altered.
 
 use crate::book::{refusal, Bid, Book, Refusal};
 use crate::clearing;
@@ -12,9 +12,9 @@ use crate::random::Random;
 use crate::shape::Shape;
 use crate::sheet;
 
-const BIDS: &str = "(bid 3 (seg 1 60 400 0) (seg 61 100 350 -500))
-(bid 8 (seg 20 80 380 1000))
-(bid 12 (seg 120 120 370 0))
+const BIDS: &str = "(bid 3 0 (seg 1 60 400 0) (seg 61 100 350 -500))
+(bid 8 0 (seg 20 80 380 1000))
+(bid 12 0 (seg 120 120 370 0))
 ";
 
 const SHEET: &str = "(award 120 43100)
@@ -29,6 +29,27 @@ const PAGE: &str = concat!(
     "     3   2       100              345.00    20            444.00\n",
     "     8   1        20               86.00     5            444.00\n",
     "    12   0         0                0.00     0            431.00\n",
+);
+
+/// The paper's book with carriages. With the first two bidders 120 blanks cost 250 × q + 49,000 where the first sells q from 40 to 60, and
+/// 200 × q + 48,500 from 61 to 100: least 59,000 with 40 and 80. The third sells them for 520 × 120 = 62,400.
+const CARRIED: &str = "(demand 120)
+(bid 3 250 (seg 1 60 400 0) (seg 61 100 350 -500))
+(bid 8 20 (seg 20 80 380 1000))
+(bid 12 150 (seg 120 120 370 0))
+";
+
+const CARRIED_SHEET: &str = "(award 120 59000)
+(buy 3 1 40 26000 8 (without 62400))
+(buy 8 1 80 33000 13 (without 62400))
+(buy 12 0 0 0 0 (without 59000))
+";
+
+const CARRIED_PAGE: &str = concat!(
+    "                 120                                      590.00\n",
+    "     3   1        40              260.00     8            624.00\n",
+    "     8   1        80              330.00    13            624.00\n",
+    "    12   0         0                0.00     0            590.00\n",
 );
 
 /// The checks done, and those that failed.
@@ -76,9 +97,9 @@ fn paper_awards(checks: &mut Checks, shape: &Shape) {
     checks.check("the paper's sheet", sheet == Ok(SHEET.as_bytes().to_vec()));
     let uncovered = judged(shape, &format!("(demand 301)\n{BIDS}")).sheet();
     checks.check("the paper's demand 301", uncovered == Err(refusal(9, 0)));
-    let alone = judged(shape, "(demand 119)\n(bid 12 (seg 120 120 370 0))\n").sheet();
+    let alone = judged(shape, "(demand 119)\n(bid 12 0 (seg 120 120 370 0))\n").sheet();
     checks.check("bidder 12 alone", alone == Err(refusal(9, 0)));
-    let pair = judged(shape, "(demand 10)\n(bid 1 (seg 1 10 5 0))\n(bid 2 (seg 1 10 5 0))\n");
+    let pair = judged(shape, "(demand 10)\n(bid 1 0 (seg 1 10 5 0))\n(bid 2 0 (seg 1 10 5 0))\n");
     let award = pair.cleared().map(|cleared| cleared.1.clone());
     checks.check("two alike", award.is_ok_and(|a| a.quantities == [10, 0] && a.total == 50));
 }
@@ -89,7 +110,7 @@ fn pages(checks: &mut Checks, shape: &Shape) {
     checks.check("the paper's page", paper == Ok(PAGE.as_bytes().to_vec()));
     let uncovered = judged(shape, &format!("(demand 301)\n{BIDS}")).page();
     checks.check("no page for the paper's demand 301", uncovered == Err(refusal(9, 0)));
-    let alone = judged(shape, "(demand 1)\n(bid 4 (seg 1 1 5 0))\n").page();
+    let alone = judged(shape, "(demand 1)\n(bid 4 0 (seg 1 1 5 0))\n").page();
     let first = "                   1                                        0.05\n";
     let bid = "     4   1         1                0.05     1              none\n";
     checks.check("a page with five cents and `none`", alone == Ok(format!("{first}{bid}").into_bytes()));
@@ -111,11 +132,11 @@ fn paper_refusals(checks: &mut Checks, shape: &Shape) {
     let cases = [
         ("", Some(refusal(2, 0))),
         ("(demand 05)", Some(refusal(2, 9))),
-        ("(demand 0)\n(bid 3 (seg 1 60 400 0))\n", Some(refusal(5, 1))),
-        ("(demand 70)\n(bid 3 (seg 61 100 350 -21350))\n", None),
-        ("(demand 70)\n(bid 3 (seg 61 100 350 -21351))\n", Some(refusal(8, 2))),
-        ("(demand 70)\n(bid 8 (seg 1 9 1 0))\n(bid 8 (seg 1 9 1 0))\n", Some(refusal(6, 3))),
-        ("(demand 70)\n(bid 3 (seg 1 60 400 0) (seg 60 100 350 0))\n", Some(refusal(7, 2))),
+        ("(demand 0)\n(bid 3 0 (seg 1 60 400 0))\n", Some(refusal(5, 1))),
+        ("(demand 70)\n(bid 3 0 (seg 61 100 350 -21350))\n", None),
+        ("(demand 70)\n(bid 3 0 (seg 61 100 350 -21351))\n", Some(refusal(8, 2))),
+        ("(demand 70)\n(bid 8 0 (seg 1 9 1 0))\n(bid 8 0 (seg 1 9 1 0))\n", Some(refusal(6, 3))),
+        ("(demand 70)\n(bid 3 0 (seg 1 60 400 0) (seg 60 100 350 0))\n", Some(refusal(7, 2))),
     ];
     for (text, expected) in cases {
         checks.check(text, read(shape, text) == expected);
@@ -125,7 +146,91 @@ fn paper_refusals(checks: &mut Checks, shape: &Shape) {
     };
     checks.check("split 60, 60, 0", book.split(&[60, 60, 0]) == Ok((47_800, true)));
     checks.check("split 60, 10, 0", book.split(&[60, 10, 0]) == Err(refusal(11, 3)));
-    checks.check("room of the paper's book", book.room() == 17 + 3 * 11 + 4 * 45);
+    checks.check("room of the paper's book", book.room() == 17 + 3 * 17 + 4 * 45);
+}
+
+/// Quantities, total and totals without each bidder.
+type Given = ([i64; 2], i64, [Option<i64>; 2]);
+
+fn gives(shape: &Shape, text: &str, (quantities, total, without): Given) -> bool {
+    let award = judged(shape, text).cleared().map(|cleared| cleared.1.clone());
+    award.is_ok_and(|a| a.quantities == quantities && a.total == total && a.without == without)
+}
+
+/// Two bidders, of whom the carriage of the first decides who sells, and who gets more than its start.
+fn carriage_decides(checks: &mut Checks, shape: &Shape) {
+    let who_sells = [
+        (3, ([10, 0], 1_030, [Some(1_040), Some(1_030)])),
+        (4, ([10, 0], 1_040, [Some(1_040), Some(1_040)])),
+        (5, ([0, 10], 1_040, [Some(1_040), Some(1_050)])),
+    ];
+    for (carriage, given) in who_sells {
+        let text = format!("(demand 10)\n(bid 1 {carriage} (seg 1 10 100 0))\n(bid 2 0 (seg 1 10 104 0))\n");
+        checks.check(&text, gives(shape, &text, given));
+    }
+    let who_gets_more = [(30, ([10, 5], 2_000, [None; 2])), (40, ([10, 5], 2_100, [None; 2])), (50, ([5, 10], 2_150, [None; 2]))];
+    for (carriage, given) in who_gets_more {
+        let text = format!("(demand 15)\n(bid 1 {carriage} (seg 5 10 100 0))\n(bid 2 0 (seg 5 10 140 0))\n");
+        checks.check(&text, gives(shape, &text, given));
+    }
+}
+
+/// The paper's book with carriages, whole, and its splits.
+fn carried_book(checks: &mut Checks, shape: &Shape) {
+    let carried = judged(shape, CARRIED);
+    checks.check("the sheet with carriages", carried.sheet() == Ok(CARRIED_SHEET.as_bytes().to_vec()));
+    checks.check("the page with carriages", carried.page() == Ok(CARRIED_PAGE.as_bytes().to_vec()));
+    checks.check("the book with carriages written again", carried.written() == Ok(CARRIED.as_bytes().to_vec()));
+    let Ok(book) = carried.reading else {
+        return checks.check("the book with carriages is accepted", false);
+    };
+    let splits = [([60, 60, 0], 64_000, true), ([100, 20, 0], 68_500, true), ([60, 59, 0], 63_600, false), ([0, 0, 120], 62_400, true)];
+    for (quantities, price, meets) in splits {
+        checks.check("a split with carriages", book.split(&quantities) == Ok((price, meets)));
+    }
+    checks.check("nothing is carried for nothing", book.split(&[0, 0, 0]) == Ok((0, false)));
+    checks.check("room of the book with carriages", book.room() == 17 + 3 * 17 + 4 * 45);
+}
+
+/// The highest price, (1,000,000 + 10,000) × 1,000,000 + 1,000,000,000,000, and the longest line, which fills the room figure.
+fn carriage_at_limits(checks: &mut Checks, shape: &Shape) {
+    let text = "(demand 1000000)\n(bid 9999 10000 (seg 1000000 1000000 1000000 1000000000000))\n";
+    let sheet = "(award 1000000 2010000000000)\n(buy 9999 1 1000000 2010000000000 1250 (without none))\n";
+    let first = "             1000000                              20100000000.00\n";
+    let bid = "  9999   1   1000000      20100000000.00  1250              none\n";
+    let highest = judged(shape, text);
+    checks.check("the sheet of the highest price", highest.sheet() == Ok(sheet.as_bytes().to_vec()));
+    checks.check("the page of the highest price", highest.page() == Ok(format!("{first}{bid}").into_bytes()));
+    let split = highest.reading.map(|book| book.split(&[1_000_000]));
+    checks.check("the highest price of a split", split == Ok(Ok((2_010_000_000_000, true))));
+    let longest = "(demand 1000000)\n(bid 9999 10000 (seg 1000000 1000000 1000000 -1000000000000))\n";
+    let room = judged(shape, longest).reading.map(|book| book.room());
+    checks.check("the room of the longest line", room == Ok(longest.len() as u64) && longest.len() == 79);
+}
+
+/// Carriages in and out of range, the order of refusals in a line, and rule 8, which looks at the curve without carriage.
+fn carriage_refusals(checks: &mut Checks, shape: &Shape) {
+    let eight: String = (1..=8).map(|bidder| format!("(bid {bidder} 0 (seg 1 1 5 0))\n")).collect();
+    let seven = " (seg 1 1 5 0) (seg 2 2 5 0) (seg 3 3 5 0) (seg 4 4 5 0) (seg 5 5 5 0) (seg 6 6 5 0) (seg 7 7 5 0)";
+    let cases = [
+        ("(bid 3 10000 (seg 1 9 5 0))\n".to_string(), None),
+        ("(bid 3 10001 (seg 1 9 5 0))\n".to_string(), Some(refusal(5, 2))),
+        ("(bid 3 9999999999999 (seg 1 9 5 0))\n".to_string(), Some(refusal(5, 2))),
+        ("(bid 3 0 (seg 1 9 5 0))\n(bid 4 10001 (seg 1 9 5 0))\n".to_string(), Some(refusal(5, 3))),
+        (format!("{eight}(bid 9 10001 (seg 1 9 5 0))\n"), Some(refusal(3, 10))),
+        (format!("(bid 3 10001{seven})\n"), Some(refusal(4, 2))),
+        ("(bid 8 0 (seg 1 9 5 0))\n(bid 8 10001 (seg 1 9 5 0))\n".to_string(), Some(refusal(5, 3))),
+        ("(bid 8 10001 (seg 9 1 5 0))\n".to_string(), Some(refusal(5, 2))),
+        ("(bid 8 10001 (seg 1 9 5 -6))\n".to_string(), Some(refusal(5, 2))),
+        ("(bid 8 0 (seg 1 9 5 -6))\n(bid 9 10001 (seg 1 9 5 0))\n".to_string(), Some(refusal(8, 2))),
+        ("(bid 3 10000 (seg 61 100 350 -21350))\n".to_string(), None),
+        ("(bid 3 10000 (seg 61 100 350 -21351))\n".to_string(), Some(refusal(8, 2))),
+        ("(bid 3 1 (seg 1 9 0 -1))\n".to_string(), Some(refusal(8, 2))),
+    ];
+    for (bids, expected) in cases {
+        let text = format!("(demand 9)\n{bids}");
+        checks.check(&text, read(shape, &text) == expected);
+    }
 }
 
 /// Places of refusal 2 counted by hand: the text up to `|` is the longest possible beginning.
@@ -136,15 +241,27 @@ fn places(checks: &mut Checks, shape: &Shape) {
         "(demand 5)\n|",
         "(demand 5)\n|\n",
         "(demand 5)\n(bid 3|)\n",
-        "(demand 5)\n(bid 3 (seg 1 5 |-1 0))\n",
-        "(demand 5)\n(bid 3 (seg 1 5 1 -|0))\n",
-        "(demand 5)\n(bid 3 (seg 1 5 1 0|0))\n",
-        "(demand 5)\n(bid 3 (seg 1 5 1 -1234567890123|4))\n",
-        "(demand 5)\n(bid 3 (seg 1 5 1 0))\n|)",
-        "(demand 5)\n(bid 3 (seg 1 5 1 0))\n(|demand 5)\n",
-        "(demand 5)\n(bid 3 (seg 1 5 1 0))| \n",
+        "(demand 5)\n(bid 3 |)\n",
+        "(demand 5)\n(bid 3 0|)\n",
+        "(demand 5)\n(bid 3 |",
+        "(demand 5)\n(bid 3 |(seg 1 5 1 0))\n",
+        "(demand 5)\n(bid 3 0 (seg 1 5 1 0))\n(bid 4 |(seg 1 5 1 0))\n",
+        "(demand 5)\n(bid 3 |-1 (seg 1 5 1 0))\n",
+        "(demand 5)\n(bid 3 0|7 (seg 1 5 1 0))\n",
+        "(demand 5)\n(bid 3 1234567890123|4 (seg 1 5 1 0))\n",
+        "(demand 5)\n(bid 3 | 7 (seg 1 5 1 0))\n",
+        "(demand 5)\n(bid 3 7 | (seg 1 5 1 0))\n",
+        "(demand 5)\n(bid 3 7 |8 (seg 1 5 1 0))\n",
+        "(demand 5)\n(bid 3 7|(seg 1 5 1 0))\n",
+        "(demand 5)\n(bid 3 0 (seg 1 5 |-1 0))\n",
+        "(demand 5)\n(bid 3 0 (seg 1 5 1 -|0))\n",
+        "(demand 5)\n(bid 3 0 (seg 1 5 1 0|0))\n",
+        "(demand 5)\n(bid 3 0 (seg 1 5 1 -1234567890123|4))\n",
+        "(demand 5)\n(bid 3 0 (seg 1 5 1 0))\n|)",
+        "(demand 5)\n(bid 3 0 (seg 1 5 1 0))\n(|demand 5)\n",
+        "(demand 5)\n(bid 3 0 (seg 1 5 1 0))| \n",
         "|Demand",
-        "(demand 5)\n(bid 3 (seg 1 5 1 0)|\r)\n",
+        "(demand 5)\n(bid 3 0 (seg 1 5 1 0)|\r)\n",
     ];
     for text in texts {
         let place = text.find('|').expect("a marked place");
@@ -197,22 +314,31 @@ fn tied(all: &[Division]) -> bool {
     all.iter().filter(|division| Some(division.0) == least).count() > 1
 }
 
+/// Whether the award would give other quantities if nothing were asked for carriage.
+fn decided_by_carriage(book: &Book) -> bool {
+    let mut without = book.clone();
+    without.bids.iter_mut().for_each(|bid| bid.carriage = 0);
+    clearing::award(book).map(|award| award.quantities) != clearing::award(&without).map(|award| award.quantities)
+}
+
 fn listings(checks: &mut Checks) {
     let mut random = Random::new(71);
-    let mut ties = 0;
+    let (mut ties, mut decided) = (0, 0);
     for turn in 0..6_000 {
         let mut book = match turn % 3 {
             0 => books::book(&mut random, &books::SMALL),
             1 => books::tied(&mut random, &books::SMALL),
-            _ => families::ALL[turn / 3 % 4](&mut random, &families::SMALL),
+            _ => families::ALL[turn / 3 % families::ALL.len()](&mut random, &families::SMALL),
         };
         book.demand = book.demand.min(24);
         let all = divisions(&book.bids, book.demand);
         ties += u64::from(tied(&all));
+        decided += u64::from(decided_by_carriage(&book));
         checks.check("a small book by listing all divisions", listed_well(&book, &all));
     }
-    println!("self-test: 6000 small books listed, {ties} of them with several cheapest divisions");
+    println!("self-test: 6000 small books listed, {ties} of them with several cheapest divisions, {decided} decided by carriage");
     checks.check("ties among the small books", ties > 500);
+    checks.check("small books decided by carriage", decided > 500);
 }
 
 type Alteration = fn(&mut Answer);
@@ -231,7 +357,8 @@ const ALTERATIONS: [Alteration; 7] = [
 fn alterations(checks: &mut Checks) {
     let mut comparer = Comparer::silent();
     let accepted = format!("(demand 120)\n{BIDS}");
-    for text in [accepted.as_str(), "(demand 0)\n(bid 3 (seg 1 60 400 0))\n", "(demand", "(demand 301)\n(bid 3 (seg 1 9 1 0))\n"] {
+    let refused = ["(demand 0)\n(bid 3 0 (seg 1 60 400 0))\n", "(demand", "(demand 301)\n(bid 3 0 (seg 1 9 1 0))\n"];
+    for text in [accepted.as_str(), CARRIED].into_iter().chain(refused) {
         alter_text(checks, &mut comparer, text);
     }
     checks.check("altered answers were compared", comparer.counts.different > 100);
@@ -265,6 +392,10 @@ pub fn run() -> bool {
     pages(&mut checks, &shape);
     columns(&mut checks);
     paper_refusals(&mut checks, &shape);
+    carriage_decides(&mut checks, &shape);
+    carried_book(&mut checks, &shape);
+    carriage_at_limits(&mut checks, &shape);
+    carriage_refusals(&mut checks, &shape);
     places(&mut checks, &shape);
     listings(&mut checks);
     alterations(&mut checks);

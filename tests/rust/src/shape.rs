@@ -39,7 +39,7 @@ fn segment() -> Part {
 
 fn bid() -> Part {
     let segments = Repeated(Box::new(segment()));
-    Row(vec![Word("(bid "), number(), segments, Word(")\n")])
+    Row(vec![Word("(bid "), number(), Word(" "), number(), segments, Word(")\n")])
 }
 
 fn book() -> Part {

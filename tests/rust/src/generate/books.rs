@@ -5,6 +5,7 @@ use crate::random::Random;
 
 pub const MOST: i64 = 1_000_000;
 pub const MOST_FIXED: i64 = 1_000_000_000_000;
+pub const MOST_CARRIAGE: i64 = 10_000;
 
 /// How large a book is: bids and segments from and to, and the most of each other number.
 #[derive(Clone, Copy)]
@@ -15,16 +16,19 @@ pub struct Plan {
     pub width: i64,
     pub unit: i64,
     pub fixed: i64,
+    pub carriage: i64,
 }
 
-pub const SMALL: Plan = Plan { bids: (1, 4), segments: (1, 3), gap: 3, width: 6, unit: 4, fixed: 12 };
-pub const USUAL: Plan = Plan { bids: (1, 4), segments: (1, 4), gap: 40, width: 120, unit: 900, fixed: 40_000 };
-pub const WIDE: Plan = Plan { bids: (1, 4), segments: (1, 3), gap: 900, width: 3_000, unit: MOST, fixed: 1_000_000_000 };
-pub const MANY_BIDS: Plan = Plan { bids: (5, 8), segments: (1, 2), gap: 4, width: 9, unit: 7, fixed: 30 };
-pub const MANY_SEGMENTS: Plan = Plan { bids: (1, 3), segments: (4, 6), gap: 3, width: 8, unit: 9, fixed: 40 };
-pub const FULL: Plan = Plan { bids: (8, 8), segments: (6, 6), gap: 20, width: 60, unit: 900, fixed: 40_000 };
-pub const FULL_LARGE: Plan = Plan { gap: 9_000, width: 90_000, unit: MOST, fixed: MOST_FIXED, ..FULL };
-pub const LARGE: Plan = Plan { bids: (1, 4), segments: (1, 3), gap: 90_000, width: 300_000, unit: MOST, fixed: MOST_FIXED };
+pub const SMALL: Plan = Plan { bids: (1, 4), segments: (1, 3), gap: 3, width: 6, unit: 4, fixed: 12, carriage: 3 };
+pub const USUAL: Plan = Plan { bids: (1, 4), segments: (1, 4), gap: 40, width: 120, unit: 900, fixed: 40_000, carriage: 300 };
+pub const WIDE: Plan =
+    Plan { bids: (1, 4), segments: (1, 3), gap: 900, width: 3_000, unit: MOST, fixed: 1_000_000_000, carriage: MOST_CARRIAGE };
+pub const MANY_BIDS: Plan = Plan { bids: (5, 8), segments: (1, 2), gap: 4, width: 9, unit: 7, fixed: 30, carriage: 5 };
+pub const MANY_SEGMENTS: Plan = Plan { bids: (1, 3), segments: (4, 6), gap: 3, width: 8, unit: 9, fixed: 40, carriage: 6 };
+pub const FULL: Plan = Plan { bids: (8, 8), segments: (6, 6), gap: 20, width: 60, unit: 900, fixed: 40_000, carriage: 300 };
+pub const FULL_LARGE: Plan = Plan { gap: 9_000, width: 90_000, unit: MOST, fixed: MOST_FIXED, carriage: MOST_CARRIAGE, ..FULL };
+pub const LARGE: Plan =
+    Plan { bids: (1, 4), segments: (1, 3), gap: 90_000, width: 300_000, unit: MOST, fixed: MOST_FIXED, carriage: MOST_CARRIAGE };
 
 fn fixed(random: &mut Random, plan: &Plan, unit: i64, start: i64) -> i64 {
     let lowest = -(unit * start);
@@ -56,6 +60,14 @@ fn segments(random: &mut Random, plan: &Plan) -> Vec<Segment> {
     list
 }
 
+fn carriage(random: &mut Random, plan: &Plan) -> i64 {
+    match random.below(5) {
+        0 => 0,
+        1 => plan.carriage,
+        _ => random.between(0, plan.carriage),
+    }
+}
+
 /// A book of the plan with the demand 1.
 fn bids(random: &mut Random, plan: &Plan) -> Book {
     let count = random.between(plan.bids.0, plan.bids.1);
@@ -63,7 +75,7 @@ fn bids(random: &mut Random, plan: &Plan) -> Book {
     let mut list = Vec::new();
     for _ in 0..count {
         bidder += random.between(1, 5);
-        list.push(Bid { bidder, segments: segments(random, plan) });
+        list.push(Bid { bidder, carriage: carriage(random, plan), segments: segments(random, plan) });
     }
     Book { demand: 1, bids: list }
 }
@@ -112,25 +124,33 @@ pub fn book(random: &mut Random, plan: &Plan) -> Book {
     book
 }
 
-/// Bidders with the segments or prices of others, and prices of 0, so that many divisions cost the same.
+/// Bidders with the segments and carriage or the prices of others, and prices of 0, so that many divisions cost the same.
 pub fn tied(random: &mut Random, plan: &Plan) -> Book {
     let mut book = bids(random, plan);
-    let unit = random.between(0, 2);
+    let blank = random.between(0, 2);
     for index in 0..book.bids.len() {
         match random.below(4) {
-            0 => book.bids[index].segments = book.bids[0].segments.clone(),
-            1 => flatten(&mut book.bids[index], unit, 0),
-            2 => flatten(&mut book.bids[index], 0, random.pick(&[0, 0, 5])),
-            _ => flatten(&mut book.bids[index], unit, random.between(0, 2)),
+            0 => book.bids[index] = Bid { bidder: book.bids[index].bidder, ..book.bids[0].clone() },
+            1 => flatten(random, &mut book.bids[index], blank, 0),
+            2 => {
+                let fixed = random.pick(&[0, 0, 5]);
+                flatten(random, &mut book.bids[index], 0, fixed);
+            }
+            _ => {
+                let fixed = random.between(0, 2);
+                flatten(random, &mut book.bids[index], blank, fixed);
+            }
         }
     }
     book.demand = demand(random, &book);
     book
 }
 
-fn flatten(bid: &mut Bid, unit: i64, fixed: i64) {
+/// All segments at one price of a blank, which is shared out between unit price and carriage.
+fn flatten(random: &mut Random, bid: &mut Bid, blank: i64, fixed: i64) {
+    bid.carriage = random.between(0, blank);
     for segment in &mut bid.segments {
-        segment.unit = unit;
+        segment.unit = blank - bid.carriage;
         segment.fixed = fixed;
     }
 }

@@ -38,12 +38,13 @@ fn out_of_range(random: &mut Random, book: &mut Book) {
     let segment = &mut book.bids[index].segments[number];
     let zero = random.chance(35);
     let quantity = if zero { 0 } else { past(random, books::MOST) };
-    match random.below(6) {
+    match random.below(7) {
         0 => book.demand = quantity,
         1 => book.bids[index].bidder = if zero { 0 } else { past(random, 9_999) },
-        2 => segment.start = quantity,
-        3 => segment.end = quantity,
-        4 => segment.unit = past(random, books::MOST),
+        2 => book.bids[index].carriage = past(random, books::MOST_CARRIAGE),
+        3 => segment.start = quantity,
+        4 => segment.end = quantity,
+        5 => segment.unit = past(random, books::MOST),
         _ => {
             let fixed = random.pick(&[books::MOST_FIXED + 1, THIRTEEN_DIGITS]);
             segment.fixed = if zero { fixed } else { -fixed };
@@ -73,9 +74,13 @@ fn segments_not_rising(random: &mut Random, book: &mut Book) {
     }
 }
 
+/// In half of the books the carriage is so high that with it the price would not be negative.
 fn negative_at_start(random: &mut Random, book: &mut Book) {
     let index = random.below(book.bids.len());
     let number = random.below(book.bids[index].segments.len());
+    if random.chance(50) {
+        book.bids[index].carriage = books::MOST_CARRIAGE;
+    }
     let segment = &mut book.bids[index].segments[number];
     let least = segment.unit.saturating_mul(segment.start).min(books::MOST_FIXED - 100);
     segment.fixed = -least - random.pick(&[1, 1, 1, 2, 50]);

@@ -1,4 +1,4 @@
-//! Texts made of bytes: edits of books, beginnings, any bytes, and texts beside the longest length.
+//! Texts made of bytes: edits of books, other words for a carriage, beginnings, any bytes, and texts beside the longest length.
 
 use crate::random::Random;
 
@@ -44,6 +44,59 @@ pub fn edited(random: &mut Random, text: &[u8]) -> Vec<u8> {
     text
 }
 
+/// What is put where a carriage stands: at and around its limits, longer numbers, and what is no number of the shape.
+const CARRIAGES: [&str; 24] = [
+    "0",
+    "1",
+    "9",
+    "9999",
+    "10000",
+    "10001",
+    "65536",
+    "99999",
+    "100000",
+    "4294967296",
+    "4294967297",
+    "9999999999999",
+    "10000000000000",
+    "99999999999999",
+    "00",
+    "07",
+    "-1",
+    "-0",
+    "+1",
+    "1.5",
+    "",
+    "1 2",
+    "carriage",
+    "(seg 1 5 1 0)",
+];
+
+/// The line of a bid with this word for its carriage; with none it has the old form.
+fn with_carriage(line: &str, word: Option<&str>) -> String {
+    let parts: Vec<&str> = line.splitn(4, ' ').collect();
+    match word {
+        Some(word) => [parts[0], parts[1], word, parts[3]].join(" "),
+        None => [parts[0], parts[1], parts[3]].join(" "),
+    }
+}
+
+/// A book with another word for the carriage, or the old form, in one bid or in all.
+pub fn carriage_replaced(random: &mut Random, book: &[u8]) -> Vec<u8> {
+    let book = std::str::from_utf8(book).expect("a book has ASCII alone");
+    let mut lines: Vec<String> = book.split_inclusive('\n').map(String::from).collect();
+    let word = if random.chance(70) { Some(random.pick(&CARRIAGES)) } else { None };
+    let chosen = if random.chance(20) { 1..lines.len() } else { one_of(random, lines.len()) };
+    lines[chosen].iter_mut().for_each(|line| *line = with_carriage(line, word));
+    lines.concat().into_bytes()
+}
+
+/// One line, not the first.
+fn one_of(random: &mut Random, lines: usize) -> std::ops::Range<usize> {
+    let line = 1 + random.below(lines - 1);
+    line..line + 1
+}
+
 /// Fewer than 60 bytes, of all values or of the relevant ones.
 pub fn any_bytes(random: &mut Random) -> Vec<u8> {
     let length = random.below(60);
@@ -52,7 +105,7 @@ pub fn any_bytes(random: &mut Random) -> Vec<u8> {
     (0..length).map(|_| byte(random)).collect()
 }
 
-const TOKENS: [&str; 26] = [
+const TOKENS: [&str; 28] = [
     "(",
     ")",
     " ",
@@ -77,12 +130,21 @@ const TOKENS: [&str; 26] = [
     ")\n",
     "))\n",
     " 5",
+    " 10001",
     " (seg 1 5 1 0)",
+    "(bid 7 0 (seg 1 5 1 0))\n",
     "(bid 7 (seg 1 5 1 0))\n",
 ];
 
-const BEGINNINGS: [&str; 6] =
-    ["", "(demand ", "(demand 5)\n", "(demand 5)\n(bid 3", "(demand 5)\n(bid 3 (seg 1 5 1 0)", "(demand 5)\n(bid 3 (seg 1 5 1 0))\n"];
+const BEGINNINGS: [&str; 7] = [
+    "",
+    "(demand ",
+    "(demand 5)\n",
+    "(demand 5)\n(bid 3",
+    "(demand 5)\n(bid 3 0",
+    "(demand 5)\n(bid 3 0 (seg 1 5 1 0)",
+    "(demand 5)\n(bid 3 0 (seg 1 5 1 0))\n",
+];
 
 /// Words and signs of a book in any order, after a good beginning.
 pub fn tokens(random: &mut Random) -> Vec<u8> {
@@ -115,9 +177,10 @@ fn filled(length: usize, head: &str, part: &str, tail: &str, close: &str) -> Vec
     (text + close).into_bytes()
 }
 
-/// Texts of the shape of exactly this length: many bids, and many segments in one bid.
-pub fn of_length(length: usize) -> [Vec<u8>; 2] {
-    let bids = filled(length, "(demand 5)\n", "(bid ", " (seg 1 1 1 0))\n", "");
-    let segments = filled(length, "(demand 5)\n(bid 1", " (seg 1 1 1 ", ")", ")\n");
-    [bids, segments]
+/// Texts of the shape of exactly this length: many bids, made up by bidder numbers or by carriages, and many segments in one bid.
+pub fn of_length(length: usize) -> [Vec<u8>; 3] {
+    let bids = filled(length, "(demand 5)\n", "(bid ", " 0 (seg 1 1 1 0))\n", "");
+    let carriages = filled(length, "(demand 5)\n", "(bid 1 ", " (seg 1 1 1 0))\n", "");
+    let segments = filled(length, "(demand 5)\n(bid 1 0", " (seg 1 1 1 ", ")", ")\n");
+    [bids, carriages, segments]
 }

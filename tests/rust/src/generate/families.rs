@@ -1,6 +1,7 @@
-//! Books of families that are hard for a search with bounds: many choices cost nearly the same, or few meet the demand.
+//! Books of families that are hard for a search with bounds: many choices cost nearly the same, or few meet the demand. In the last one
+//! carriage decides the order.
 
-use super::books::{self, MOST};
+use super::books::{self, MOST, MOST_CARRIAGE};
 use crate::book::{Bid, Book, Segment};
 use crate::random::Random;
 use std::collections::BTreeSet;
@@ -20,7 +21,7 @@ pub const FULL: Size = Size { bids: (8, 8), segments: 6, top: 4_000 };
 
 pub type Family = fn(&mut Random, &Size) -> Book;
 
-pub const ALL: [Family; 4] = [steps, giant, parity, noise];
+pub const ALL: [Family; 5] = [steps, giant, parity, noise, carriage];
 
 /// Different numbers from 1 to `top`, rising: so many, or all where there are not so many.
 fn rising(random: &mut Random, count: usize, top: i64) -> Vec<i64> {
@@ -31,10 +32,10 @@ fn rising(random: &mut Random, count: usize, top: i64) -> Vec<i64> {
     numbers.into_iter().collect()
 }
 
-/// A book with the demand 1 whose bids have these segments.
+/// A book with the demand 1 whose bids have these segments and no carriage.
 fn bids(random: &mut Random, size: &Size, mut segments: impl FnMut(&mut Random) -> Vec<Segment>) -> Book {
     let count = random.between(size.bids.0, size.bids.1);
-    let bid = |index: i64| Bid { bidder: index + 1, segments: segments(random) };
+    let bid = |index: i64| Bid { bidder: index + 1, carriage: 0, segments: segments(random) };
     Book { demand: 1, bids: (0..count).map(bid).collect() }
 }
 
@@ -46,6 +47,21 @@ fn with_demand(random: &mut Random, mut book: Book) -> Book {
         false => books::demand(random, &book),
     };
     book
+}
+
+/// In a third of the books each bidder takes a part of its unit prices for its carriage, as much as rule 8 allows or less: all prices stay.
+fn shared_out(random: &mut Random, mut book: Book) -> Book {
+    if random.chance(33) {
+        book.bids.iter_mut().for_each(|bid| share_out(random, bid));
+    }
+    book
+}
+
+fn share_out(random: &mut Random, bid: &mut Bid) {
+    let most = |s: &Segment| s.unit.min((s.unit * s.start + s.fixed) / s.start);
+    let least = bid.segments.iter().map(most).fold(MOST_CARRIAGE, i64::min);
+    bid.carriage = random.between(0, least);
+    bid.segments.iter_mut().for_each(|segment| segment.unit -= bid.carriage);
 }
 
 /// Each bidder sells from 1 blank on without gaps; the prices at the ends of all segments lie on one line, but for a small sum, and within
@@ -64,7 +80,8 @@ pub fn steps(random: &mut Random, size: &Size) -> Book {
         starts.zip(&ends).map(segment).collect()
     };
     let book = bids(random, size, segments);
-    with_demand(random, book)
+    let book = with_demand(random, book);
+    shared_out(random, book)
 }
 
 /// Segments with gaps, some of one quantity alone; without prices.
@@ -94,7 +111,7 @@ pub fn giant(random: &mut Random, size: &Size) -> Book {
     }
     let large = &book.bids[index].segments;
     book.demand = large[random.below(large.len())].start + random.between(0, 3 * size.top);
-    book
+    shared_out(random, book)
 }
 
 /// A unit price near the base; no fixed price, a small rebate, or a small sum.
@@ -122,7 +139,7 @@ pub fn parity(random: &mut Random, size: &Size) -> Book {
     }
     book = with_demand(random, book);
     book.demand = book.demand / step * step + random.pick(&[1, step - 1]);
-    book
+    shared_out(random, book)
 }
 
 fn move_off(random: &mut Random, first: &mut Segment) {
@@ -142,11 +159,29 @@ pub fn noise(random: &mut Random, size: &Size) -> Book {
         segments
     };
     let book = bids(random, size, segments);
-    with_demand(random, book)
+    let book = with_demand(random, book);
+    shared_out(random, book)
 }
 
 fn on_line(random: &mut Random, segment: &mut Segment, line: i64, extra: i64) {
     segment.unit = if random.chance(50) { line } else { random.between(0, line) };
     let place = random.pick(&[segment.start, segment.end]);
     segment.fixed = (line - segment.unit) * place + random.between(0, extra);
+}
+
+/// Unit price and carriage are together near one price of a blank, so that a low unit price has a high carriage: the order of the unit
+/// prices is not that of the prices.
+pub fn carriage(random: &mut Random, size: &Size) -> Book {
+    let blank = random.pick(&[3, 12, 400, MOST_CARRIAGE, 400_000]);
+    let mut book = bids(random, size, |random| places(random, size, 30));
+    book.bids.iter_mut().for_each(|bid| carried(random, bid, blank));
+    with_demand(random, book)
+}
+
+fn carried(random: &mut Random, bid: &mut Bid, blank: i64) {
+    bid.carriage = random.between(0, blank.min(MOST_CARRIAGE));
+    for segment in &mut bid.segments {
+        segment.unit = blank - bid.carriage + random.between(0, 2);
+        segment.fixed = random.pick(&[0, 0, 1, 100]);
+    }
 }

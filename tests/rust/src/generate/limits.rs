@@ -1,6 +1,6 @@
 //! Books with every number at or beside the limit of its range.
 
-use super::books::{MOST, MOST_FIXED};
+use super::books::{MOST, MOST_CARRIAGE, MOST_FIXED};
 use crate::book::{Bid, Book, Segment};
 use crate::random::Random;
 
@@ -37,10 +37,18 @@ fn segments(random: &mut Random) -> Vec<Segment> {
     shape.iter().map(priced).collect()
 }
 
+/// Now and then past its limit.
+fn carriage(random: &mut Random) -> i64 {
+    match random.chance(3) {
+        true => MOST_CARRIAGE + 1,
+        false => random.pick(&[0, 1, MOST_CARRIAGE - 1, MOST_CARRIAGE, MOST_CARRIAGE]),
+    }
+}
+
 pub fn book(random: &mut Random, most_bids: i64, demands: &[i64]) -> Book {
     let count = random.between(1, most_bids);
     let first = random.pick(&[1, 2, 9_999 - count, 10_000 - count, 10_000 - count]);
-    let bid = |index: i64| Bid { bidder: first + index, segments: segments(random) };
+    let bid = |index: i64| Bid { bidder: first + index, carriage: carriage(random), segments: segments(random) };
     let bids = (0..count).map(bid).collect();
     Book { demand: random.pick(demands), bids }
 }
@@ -50,18 +58,19 @@ pub fn beside(middle: i64) -> [i64; 3] {
     [middle - 1, middle, middle + 1]
 }
 
-/// Two bidders who both offer the quantity, the first at this fixed price, and at the highest unit price where that is negative.
+/// Two bidders who both offer the quantity without carriage, the first at this fixed price, and at the highest unit price where that is
+/// negative.
 pub fn bought(quantity: i64, fixed: i64) -> Book {
     let unit = if fixed < 0 { MOST } else { 1 };
     let first = Segment { start: 1, end: MOST, unit, fixed };
     let second = Segment { start: quantity.max(1), end: quantity.max(1), unit: 1, fixed: fixed.max(0) };
-    let bid = |bidder, segment| Bid { bidder, segments: vec![segment] };
+    let bid = |bidder, segment| Bid { bidder, carriage: 0, segments: vec![segment] };
     Book { demand: quantity, bids: vec![bid(10, first), bid(100, second)] }
 }
 
 /// Eight bids whose sheet is as long as a sheet can be made here: large quantities, prices and totals.
 pub fn longest(spare: i64) -> Book {
     let dear = |start, end| Segment { start, end, unit: MOST, fixed: MOST_FIXED };
-    let bid = |index: i64| Bid { bidder: 9_992 + index, segments: vec![dear(100_000, 125_000 + spare)] };
+    let bid = |index: i64| Bid { bidder: 9_992 + index, carriage: MOST_CARRIAGE, segments: vec![dear(100_000, 125_000 + spare)] };
     Book { demand: MOST, bids: (0..8).map(bid).collect() }
 }
