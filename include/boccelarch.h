@@ -1,5 +1,13 @@
 /* The blanks tender for C: entries of libboccelarch.a (x86-64 Linux).
  *
+ * A bid book is a line for the demand and then one for each bid, each ended by byte 10:
+ *
+ *     (demand 120)
+ *     (bid 3 250 (seg 1 60 400 0) (seg 61 100 350 -500))
+ *
+ * A bid is the bidder number, the carriage in cents for one blank, and segments: start, end, unit price, fixed price. On a segment r blanks
+ * cost (unit price + carriage) * r + fixed price. README.md has the ranges.
+ *
  * Every function takes the bytes of a bid book, which need not end with a 0, and returns the number of the refusal, 0 where nothing is
  * refused. It always sets *place to the place of the refusal (a line, a place in the text, or a length), 0 where nothing is refused, and
  * every other number behind a pointer; with a refusal those are 0.
@@ -39,7 +47,7 @@ enum boccelarch_refusal {
     BOCCELARCH_RANGE = 5,          /* a number outside its range: the line */
     BOCCELARCH_BIDDER_ORDER = 6,   /* a bidder number not above the one before: the line */
     BOCCELARCH_SEGMENT_ORDER = 7,  /* a start above its end, or not above the end before: the line */
-    BOCCELARCH_NEGATIVE_PRICE = 8, /* a negative price at a start: the line */
+    BOCCELARCH_NEGATIVE_PRICE = 8, /* a negative price at a start, without carriage: the line */
     BOCCELARCH_NOT_COVERED = 9,    /* no allocation meets the demand exactly: 0 */
     BOCCELARCH_OUTPUT_LENGTH = 10, /* the output is too short: the bytes needed */
     BOCCELARCH_SPLIT_QUANTITY = 11 /* a quantity missing, neither 0 nor on a segment, or one too many: the line */
@@ -72,11 +80,11 @@ uint64_t boccelarch_page(const uint8_t *text, size_t text_length, uint8_t *out, 
  * BOCCELARCH_TEXT_BYTES holds every accepted book, and so does one of the bytes that boccelarch_room gives for it. */
 uint64_t boccelarch_write(const uint8_t *text, size_t text_length, uint8_t *out, size_t out_length, uint64_t *place, uint64_t *bytes);
 
-/* The room figure, how many bytes the book's text takes at most: 17 + 11 for each bid + 45 for each segment. Refused by 1 to 8. */
+/* The room figure, how many bytes the book's text takes at most: 17 + 17 for each bid + 45 for each segment. Refused by 1 to 8. */
 uint64_t boccelarch_room(const uint8_t *text, size_t text_length, uint64_t *place, uint64_t *bytes);
 
-/* The price in cents of a proposed split, one quantity for each bid in book order, whether or not the demand can be covered; *meets is 1
- * if the quantities add up to the demand, else 0. Refused by 1 to 8 and 11. */
+/* The price in cents of a proposed split, carriage with it: one quantity for each bid in book order, whether or not the demand can be
+ * covered. *meets is 1 if the quantities add up to the demand, else 0. Refused by 1 to 8 and 11. */
 uint64_t boccelarch_split(const uint8_t *text, size_t text_length, const uint64_t *quantities, size_t count, uint64_t *place, int64_t *price,
                           uint64_t *meets);
 
@@ -87,7 +95,7 @@ enum boccelarch_column {
     BOCCELARCH_BIDDER = 0,
     BOCCELARCH_SEGMENT = 1,  /* 0 for a bidder who sells nothing */
     BOCCELARCH_QUANTITY = 2, /* blanks */
-    BOCCELARCH_PRICE = 3,    /* cents */
+    BOCCELARCH_PRICE = 3,    /* cents, carriage with it */
     BOCCELARCH_SAMPLE = 4,   /* blanks to sample */
     BOCCELARCH_COVERED = 5,  /* 1 if the other bids cover the demand, 0 for `none` */
     BOCCELARCH_WITHOUT = 6,  /* the total without this bidder in cents, 0 for `none` */

@@ -2,12 +2,13 @@
 use Prim.Native.Nat.{ℕ, zero, suc, _+_, _≤_, _<_}
 use native.Mathlib.Nat.{le-of-suc-le-suc, not-suc-le-zero}
 use native.Mathlib.Omega.{arith}
-use mathlib.Core.Bool.{_&&_}
+use mathlib.Core.Bool.{Bool, _&&_, and-true}
 use mathlib.Core.List.{List, [], _∷_, map}
-use mathlib.Core.Path.{_≡_, subst}
+use mathlib.Core.Path.{_≡_, ap, subst}
 use borrow.Author.Tests.{leb-true, ltb-true}
 use lib.ListN.{length, getD, take}
 use Rattle.lists.specs.All.{All}
+use Rattle.lists.specs.Every.{every}
 use Rattle.lists.proofs.All.{all-indexed, all-at}
 use Rattle.lists.proofs.Tests.{both-left, both-right}
 use Rattle.refusal.specs.declared.Verdict.the-variants.{Accepted}
@@ -15,7 +16,7 @@ use Rattle.refusal.proofs.Firsts.{all-passed, test-holds}
 use Rattle.book.specs.declared.Bid.{Bid}
 use Rattle.book.specs.declared.Book.{Book}
 use Rattle.book.specs.Entries.{BidEntries, BookEntries, bidEntries, bookEntries}
-use Rattle.book.specs.Rules.{within, bidInRange, bidVerdict, bidsVerdict, bookVerdict}
+use Rattle.book.specs.Rules.{within, segmentInRange, bidInRange, bidVerdict, bidsVerdict, bookVerdict}
 use Rattle.book.specs.Accepted.{AcceptedBid, AcceptedLine, AcceptedBook}
 use Rattle.book.proofs.Records.{noBid}
 use Rattle.book.proofs.InRange.{within-low, within-high}
@@ -44,6 +45,11 @@ line-accepted line before b e =
       };
       above = ltb-true before (b .bidder) (test-holds _ _ _ above);
     }
+
+-- a bid without carriage is in range exactly where its bidder and its segments are
+pub range-without : (b : BidEntries) → b .carriage ≡ 0 → bidInRange b ≡ (within 1 9999 (b .bidder) && every segmentInRange (b .segments))
+unfolding bidInRange
+range-without b e = rw e (ap (λ (t : Bool). t && every segmentInRange (b .segments)) (and-true (within 1 9999 (b .bidder))))
 
 pub book-accepted : (b : BookEntries) → bookVerdict b ≡ Accepted → AcceptedBook b
 unfolding bookVerdict

@@ -6,7 +6,7 @@ use money::Cents;
 use money::CentsPerBlank;
 use refusal::Verdict;
 
-// From start to end, both counted, r blanks cost unit × r + fixed.
+// From start to end, both counted, r blanks cost unit × r + fixed, and the carriage of the bid besides.
 pub struct Segment {
     pub start: Blanks,
     pub end: Blanks,

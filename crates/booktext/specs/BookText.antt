@@ -1,4 +1,5 @@
--- The text of a bid book (document 01, section "The bid book", with the carriage of document 02, change 2): one form a line, each line ended by byte 10.
+-- The text of a bid book (document 01, section "The bid book", with the carriage of document 02, change 2): one form a line, each line
+-- ended by byte 10.
 use Prim.Native.Nat.{ℕ}
 use mathlib.Core.List.{List, _++_}
 use Rattle.lists.specs.Joined.{joined}

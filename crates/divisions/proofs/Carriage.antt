@@ -21,8 +21,7 @@ stored-keep b none =
     let same : suppliesOf (b .bids) ≡ curvesOf (b .bids) = supplies-curves (b .bids) none in
     let divides : List ℕ → List (List Segment) → Type 0 = λ rs supplies. Division (b .demand) supplies rs in
     record {
-      division = λ rs d. subst (divides rs) same d;
-      every-division = λ rs d. subst (divides rs) (sym same) d;
-      cost = λ rs. ap (λ (supplies : List (List Segment)). costOf supplies rs) same;
+      divisions = λ rs. (λ d. subst (divides rs) same d, λ d. subst (divides rs) (sym same) d);
+      costs = λ rs. ap (λ (supplies : List (List Segment)). costOf supplies rs) same;
       award = ap (awardOf (b .demand)) same;
     }

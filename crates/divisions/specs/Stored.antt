@@ -1,6 +1,7 @@
 -- What a stored book keeps, of document 02, change 2: a book whose carriages are 0 has the divisions, costs and award of its curves alone.
 use Prim.Native.Nat.{ℕ}
 use mathlib.Core.List.{List}
+use mathlib.Core.Logic.{_↔_}
 use mathlib.Core.Path.{_≡_}
 use Rattle.book.specs.Entries.{BookEntries}
 use Rattle.supply.specs.Supply.{suppliesOf}
@@ -10,7 +11,6 @@ use Rattle.divisions.specs.Division.{Division}
 use Rattle.divisions.specs.Award.{awardOf, awardOfBook}
 
 pub record ByCurves (b : BookEntries) : Type 0 where
-  pub division : (rs : List ℕ) → Division (b .demand) (suppliesOf (b .bids)) rs → Division (b .demand) (curvesOf (b .bids)) rs
-  pub every-division : (rs : List ℕ) → Division (b .demand) (curvesOf (b .bids)) rs → Division (b .demand) (suppliesOf (b .bids)) rs
-  pub cost : (rs : List ℕ) → costOf (suppliesOf (b .bids)) rs ≡ costOf (curvesOf (b .bids)) rs
+  pub divisions : (rs : List ℕ) → Division (b .demand) (suppliesOf (b .bids)) rs ↔ Division (b .demand) (curvesOf (b .bids)) rs
+  pub costs : (rs : List ℕ) → costOf (suppliesOf (b .bids)) rs ≡ costOf (curvesOf (b .bids)) rs
   pub award : awardOfBook b ≡ awardOf (b .demand) (curvesOf (b .bids))

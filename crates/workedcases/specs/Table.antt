@@ -17,7 +17,7 @@ pub record Case : Type 0 where
   pub text : List ℕ
   pub printed : List ℕ
 
--- "the book" of document 01 with carriage 0 (document 02, change 2), with the demand changed, and with the fixed price of bidder 3's second segment
+-- "the book" of document 01, with carriage 0 (document 02, change 2), the demand changed, and the fixed price of bidder 3's second segment
 abbrev pub bookWith : String → String → List ℕ
 bookWith demand fixed =
     ascii "(demand " ++ ascii demand ++ ascii ")\n"
