@@ -1,5 +1,5 @@
-# That the pages quote and cite what is there, and that the files keep three rules. Run from the repository's top (tests/docs/run does).
-# Nine kinds of check, the last three of the files:
+# That the pages quote and cite what is there, and that the files keep four rules. Run from the repository's top (tests/docs/run does).
+# Ten kinds of check, the last four of the files:
 #   page   docs/STATEMENTS.md is what tests/docs/statements.py makes, and no other page quotes a file in a fenced block
 #   path   a file, folder or heading that a page cites exists
 #   name   a name cited together with a file is declared in it
@@ -9,6 +9,8 @@
 #   asks   CLAIMS.md lists every public function of a library that has a `requires`, and no other; no entry of README.md has one
 #   crate  ARCHITECTURE.md names every crate of crates.txt, and its table of groups no other
 #   layer  what is to be believed names nothing of proofs/: no definition of specs/ and no contract of src/, but for the exceptions below
+#   shut   a definition behind a name is opened by the proofs of its own crate alone, and of a bid's carriage the code names it only where it
+#          is read, written, checked and put into a price
 #   proof  a Proof.antt begins with a comment, which says why the function meets its contract
 #   named  nothing that a file of specs/ or proofs/ declares or binds, and no parameter, field or local of the code, has the name of a
 #          function of the library, which a reader would take it for
@@ -354,6 +356,29 @@ def check_layers():
         check((file, name) in used, file, f"does not use {name}, for which tests/docs/check.py has an exception")
 
 
+# ---- what stands behind a name
+
+# The crates whose proofs may open a definition: the P cases are worked out, so they open everything.
+OPENED_IN = {"supplyOf": ["supply", "workedcases"]}
+# The crates whose code may name a part of a bid, test programs with them; every other takes segments and prices from `supply`.
+NAMED_IN = {"carriage": ["money", "book", "bidrules", "bookrecord", "booklines", "bookwriter", "supply", "cases", "clearcases"]}
+
+
+def crates_with(files, form):
+    """The crates that have a file of this kind in which the form is found."""
+    found = (file for file in glob.glob(f"crates/*/{files}", recursive=True) if re.search(form, uncommented(file), re.M))
+    return sorted({file.split("/")[1] for file in found})
+
+
+def check_shut():
+    for name, allowed in OPENED_IN.items():
+        for crate in crates_with("**/*.antt", rf"^ *unfolding\b(?:[^=:]*\s){name}\b"):
+            check(crate in allowed, f"crates/{crate}", f"opens {name}")
+    for name, allowed in NAMED_IN.items():
+        for crate in crates_with("src/**/*.rt", rf"\b{name}\b"):
+            check(crate in allowed, f"crates/{crate}", f"names {name}")
+
+
 # ---- what a proof begins with
 
 
@@ -404,6 +429,7 @@ def main():
     check_asks()
     check_crates()
     check_layers()
+    check_shut()
     check_proofs()
     check_library_names()
     for fault in faults:

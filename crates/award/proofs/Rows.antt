@@ -1,10 +1,12 @@
--- A row is the one of a bid where its parts are. Assumes nothing.
+-- A row is the one of a bid where its parts are; without carriage, segment and price are those of the curve. Assumes nothing.
 use Prim.Native.Nat.{ℕ}
 use mathlib.Core.Path.{_≡_}
 use Rattle.money.specs.declared.Blanks.{Blanks}
 use Rattle.money.specs.declared.Cents.{Cents}
 use Rattle.book.specs.Entries.{BidEntries}
 use Rattle.supply.specs.Supply.{supplyOf, priceAt, segmentNumber}
+use Rattle.supply.specs.Curve.{curveOf, NoCarriage}
+use Rattle.supply.proofs.Carriage.{supply-curve}
 use Rattle.sampling.specs.Sampling.{printedTable, sampleOf}
 use Rattle.award.specs.declared.Total.{Total}
 use Rattle.award.specs.declared.Row.{Row}
@@ -18,3 +20,8 @@ module _ (b : BidEntries) (quantity : Blanks) (without : Total) (segment : ℕ) 
       → sample .0 ≡ sampleOf printedTable (quantity .0) → row ≡ rowOf b (quantity .0) without
   unfolding rowOf
   row-is e f g = rw (e, ← f, ← g)
+
+pub row-by-curve : (b : BidEntries) (r : ℕ) (without : Total) → NoCarriage b
+    → (rowOf b r without .segment ≡ segmentNumber (curveOf b) r) × (rowOf b r without .price .0 ≡ priceAt (curveOf b) r)
+unfolding rowOf
+row-by-curve b r without none = let same = supply-curve b none in (rw same, rw same)
