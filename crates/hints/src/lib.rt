@@ -59,14 +59,14 @@ fn sold(book: Book, price: CentsPerBlank) -> u64
     sum
 }
 
-// The least price at which that reaches the demand, or the highest where none does: the best of all prices to bound the whole search
+// The least price at which that reaches the demand, or 2^30 where none below does: the best of all prices to bound the whole search
 // with. It is pub for the search, as the other hints are.
 pub fn balance(book: Book) -> CentsPerBlank
     requires { ⌜ HintedBook book ⌝ }
     ensures { λ r. ⌜ r .0 ≤ highest ⌝ }
 {
     let mut low: u64 = 0;
-    let mut high: u64 = 4294967296;
+    let mut high: u64 = 1073741824;
     while low < high {
         let middle = low + (high - low) / 2;
         if sold(book, CentsPerBlank(middle)) < book.demand.0 {
