@@ -1,4 +1,4 @@
--- What rule 5 tells of a segment, and that the price at its start then fits. Assumes nothing.
+-- What rule 5 tells of a segment, and that its prices, without carriage, then fit. Assumes nothing.
 use Prim.Native.Nat.{ℕ, _≤_}
 use native.Mathlib.Omega.{arith}
 use mathlib.Core.Bool.{true, _&&_}
@@ -49,7 +49,7 @@ in-range s e =
       fixed-size = bounds.between-size 1000000000000 (s .fixed .0) (both-left above below z) (both-right above below z);
     }
 
--- what the price rule asks at the start
-pub price-fits : (s : Segment) → InRange s → PriceFits (s .unit .0) (s .start .0) (s .fixed .0)
-price-fits s range =
-    bounds.price-fits _ (s .start .0) _ 1000000 1000000 1000000000000 (range .unit-high) (range .start-high) (range .fixed-size) (omega arith)
+-- what the price rule asks
+pub price-fits : (s : Segment) → InRange s → (r : ℕ) → r ≤ 1000000 → PriceFits (s .unit .0) r (s .fixed .0)
+price-fits s range r few =
+    bounds.price-fits _ r _ 1000000 1000000 1000000000000 (range .unit-high) few (range .fixed-size) (omega arith)

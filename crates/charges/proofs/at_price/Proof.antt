@@ -15,7 +15,7 @@ unfolding priceOf
 product l blanks = omega arith
 
 price-requires : tie.Need-price-requires
-price-requires c κs = price-fits _ _ _ highest 20000000 0 (c .pre .capped) (c .pre .few) (omega arith) (omega arith)
+price-requires c κs = price-fits _ _ _ highest 20000000 1 (omega (arith, c .pre .capped)) (c .pre .few) (omega arith) (omega arith)
 
 returns : tie.Need-returns
 returns c =

@@ -1,5 +1,6 @@
 -- The price at the start fits, by rule 5, and 0 is compared with it.
 use mathlib.Core.Path.{ap, _∙_}
+use native.Mathlib.Omega.{arith}
 use borrow.Author.Needs.{needs}
 use lib.IntN.{pos}
 use lib.Signed.{leZ}
@@ -11,7 +12,8 @@ use Rattle.segmentrules.proofs.segments.start_not_negative.Tie as tie
 price-requires : tie.Need-price-requires
 price-requires c κs =
     let a = c .before .before .before in
-    price-fits (a .args .s) (in-range (a .args .s) (a .pre))
+    let range = in-range (a .args .s) (a .pre) in
+    price-fits (a .args .s) range _ (omega (arith, range .start-high, range .end-high))
 
 returns : tie.Need-returns
 unfolding startNotNegative
