@@ -6,7 +6,7 @@ use money::Cents;
 use money::CentsPerBlank;
 use refusal::Verdict;
 
-// From start to end, both counted, r blanks cost unit × r + fixed, and the carriage of the bid besides.
+// From start to end, both counted, r blanks cost unit × r + fixed.
 pub struct Segment {
     pub start: Blanks,
     pub end: Blanks,
@@ -15,7 +15,7 @@ pub struct Segment {
 }
 
 // A bidder's price curve, the first `count` of the segments; the others are ignored. Each blank costs the
-// carriage besides.
+// carriage besides: a supply function has it in the unit prices of its segments.
 pub struct Bid {
     pub bidder: u64,
     pub carriage: CentsPerBlank,

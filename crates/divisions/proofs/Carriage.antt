@@ -3,7 +3,6 @@
 use Prim.Native.Nat.{ℕ}
 use mathlib.Core.List.{List}
 use mathlib.Core.Path.{_≡_, sym, ap, subst}
-use lib.IntN.{ℤ}
 use Rattle.lists.specs.All.{All}
 use Rattle.book.specs.declared.Segment.{Segment}
 use Rattle.book.specs.Entries.{BookEntries}

@@ -13,7 +13,7 @@ use Rattle.money.specs.Price.{priceOf}
 use Rattle.book.specs.declared.Segment.{Segment}
 use Rattle.book.specs.Entries.{BidEntries}
 use Rattle.book.specs.Rules.{segmentsRise, startNotNegative, priceOn}
-use Rattle.supply.specs.Supply.{segment0, delivered, supplyOf, suppliesOf}
+use Rattle.supply.specs.Supply.{delivered, supplyOf, suppliesOf}
 use Rattle.supply.specs.Curve.{curveOf, curvesOf, NoCarriage}
 
 -- the price without carriage, and the carriage for each blank
@@ -45,7 +45,7 @@ none-delivered : (ss : List Segment) → map (delivered 0) ss ≡ ss
 none-delivered [] = refl
 none-delivered (s ∷ ss) = let same : delivered 0 s ≡ s = rw add-zero in ap₂ (λ (t : Segment) (ts : List Segment). t ∷ ts) same (none-delivered ss)
 
-pub supply-curve : (b : BidEntries) → b .carriage ≡ 0 → supplyOf b ≡ curveOf b
+pub supply-curve : (b : BidEntries) → NoCarriage b → supplyOf b ≡ curveOf b
 unfolding supplyOf
 supply-curve b e = rw (e, none-delivered (b .segments))
 

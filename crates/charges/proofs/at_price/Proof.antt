@@ -14,6 +14,7 @@ product : (l blanks : ℕ) → natAbs (priceOf l blanks (pos 0)) ≡ l * blanks
 unfolding priceOf
 product l blanks = omega arith
 
+-- a fixed price of a cent would fit too
 price-requires : tie.Need-price-requires
 price-requires c κs = price-fits _ _ _ highest 20000000 1 (omega (arith, c .pre .capped)) (c .pre .few) (omega arith) (omega arith)
 
