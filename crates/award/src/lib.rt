@@ -3,10 +3,12 @@ ghost use mathlib.Core.Path.{_≡_};
 ghost use Rattle.book.specs.Entries.{bidEntries};
 ghost use Rattle.book.specs.Accepted.{AcceptedBid};
 ghost use Rattle.supply.specs.Supply.{supplyOf, priceAt};
+ghost use Rattle.sampling.specs.Entries.{tableEntries};
 ghost use Rattle.award.specs.Award.{noRow, noAward, rowOf};
 use book::Bid;
 use money::Blanks;
 use money::Cents;
+use sampling::Table;
 use supply::Offer;
 
 // A total without a bidder: an amount, or `none` where the bids left have no division.
@@ -73,14 +75,14 @@ fn price_of(bid: Bid, quantity: Blanks) -> Cents
     price
 }
 
-// The row of a bid of an accepted book.
-pub fn row_of(bid: Bid, quantity: Blanks, without: Total) -> Row
+// The row of a bid of an accepted book, sampled by a table.
+pub fn row_of(table: Table, bid: Bid, quantity: Blanks, without: Total) -> Row
     requires { ⌜ AcceptedBid (bidEntries bid) ⌝ }
-    ensures { λ r. ⌜ r ≡ rowOf (bidEntries bid) (quantity .0) without ⌝ }
+    ensures { λ r. ⌜ r ≡ rowOf (tableEntries table) (bidEntries bid) (quantity .0) without ⌝ }
 {
     let segment = supply::segment_number(bid, quantity);
     let price = price_of(bid, quantity);
-    let sample = sampling::sample(quantity);
+    let sample = sampling::sample(table, quantity);
     Row {
         bidder: bid.bidder,
         segment,

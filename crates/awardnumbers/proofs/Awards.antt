@@ -1,4 +1,4 @@
--- What every text and every lent list of numbers gets, case by case, as `award` comes to it. Assumes nothing.
+-- What every answer of clearing and every lent list of numbers gets, case by case, as `numbers` comes to it. Assumes nothing.
 use Prim.Native.Nat.{ℕ, _*_, _≤_, _<_}
 use mathlib.Core.List.{List}
 use mathlib.Core.Path.{_≡_, refl}
@@ -12,33 +12,36 @@ use Rattle.refusal.specs.declared.Verdict.the-variants.{Accepted, Refused}
 use Rattle.printer.specs.Written.{written}
 use Rattle.clearing.specs.declared.Clearing.{Clearing}
 use Rattle.rownumbers.specs.RowNumbers.{awardNumbers}
-use Rattle.tender.specs.FromText.{clearText}
 use Rattle.awardnumbers.specs.declared.AwardNumbers.{AwardNumbers}
-use Rattle.awardnumbers.specs.Numbers.{awardVerdict, awardAnswer, awardOutput}
+use Rattle.awardnumbers.specs.Numbers.{numbersVerdict, numbersAnswer, numbersOutput}
 
 -- the answer and the list at exit are those that are stated
-abbrev pub Answered : List ℕ → List ℕ → AwardNumbers → List ℕ → Type 0
-Answered t rows answer exit = (answer ≡ awardAnswer t (length rows)) × (exit ≡ awardOutput t rows)
+abbrev pub Answered : Clearing → List ℕ → AwardNumbers → List ℕ → Type 0
+Answered cleared rows answer exit = (answer ≡ numbersAnswer cleared (length rows)) × (exit ≡ numbersOutput cleared rows)
 
 -- zeros beside a refusal
 abbrev blank : Verdict → AwardNumbers
 blank verdict = record { verdict = verdict; total = 0; count = 0 }
 
--- where the text is cleared
-module _ (t rows : List ℕ) (cleared : Clearing) (is : cleared ≡ clearText t) where
+module _ (rows : List ℕ) (cleared : Clearing) where
   pub refused-before : (rule : Rule) (place : ℕ) → cleared .verdict ≡ Refused rule place → (answer : AwardNumbers)
-      → answer ≡ blank (cleared .verdict) → Answered t rows answer rows
-  unfolding awardVerdict awardOutput
-  refused-before rule place told answer e = rw (e, ← is, told) (refl, refl)
+      → answer ≡ blank (cleared .verdict) → Answered cleared rows answer rows
+  unfolding numbersVerdict numbersOutput
+  refused-before rule place told answer e = rw (e, told) (refl, refl)
 
   module _ (told : cleared .verdict ≡ Accepted) where
     pub too-short : length rows < 7 * cleared .award .count → (answer : AwardNumbers)
-        → answer ≡ blank (Refused OutputLength (56 * cleared .award .count)) → Answered t rows answer rows
-    unfolding awardVerdict awardOutput
-    too-short h answer e = rw (e, ← is, told, lt-leb (7 * cleared .award .count) (length rows) h) (refl, refl)
+        → answer ≡ blank (Refused OutputLength (56 * cleared .award .count)) → Answered cleared rows answer rows
+    unfolding numbersVerdict numbersOutput
+    too-short h answer e = rw (e, told, lt-leb (7 * cleared .award .count) (length rows) h) (refl, refl)
 
     pub in-full : 7 * cleared .award .count ≤ length rows → (total : ℕ) → total ≡ natAbs (cleared .award .total .0) → (exit : List ℕ)
         → exit ≡ written rows 0 (awardNumbers (cleared .award))
-        → Answered t rows (record { verdict = cleared .verdict; total = total; count = cleared .award .count }) exit
-    unfolding awardVerdict awardOutput
-    in-full h total e exit f = rw (e, f, ← is, told, le-leb (7 * cleared .award .count) (length rows) h) (refl, refl)
+        → Answered cleared rows (record { verdict = cleared .verdict; total = total; count = cleared .award .count }) exit
+    unfolding numbersVerdict numbersOutput
+    in-full h total e exit f = rw (e, f, told, le-leb (7 * cleared .award .count) (length rows) h) (refl, refl)
+
+-- what is answered of an answer of clearing is said of what that answer is stated to be
+pub said-of : {work stated : Clearing} → work ≡ stated → (rows : List ℕ) {answer : AwardNumbers} {exit : List ℕ} → Answered work rows answer exit
+    → Answered stated rows answer exit
+said-of is rows h = rw (← is) h

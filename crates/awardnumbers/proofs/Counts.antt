@@ -2,24 +2,25 @@
 use Prim.Native.Nat.{ℕ, _≤_}
 use native.Mathlib.Omega.{arith}
 use mathlib.Core.List.{List}
-use mathlib.Core.Path.{_≡_, refl, sym, ap, _∙_, subst}
+use mathlib.Core.Path.{_≡_, refl, sym, subst}
 use Rattle.refusal.specs.declared.Verdict.{Verdict}
 use Rattle.refusal.specs.declared.Verdict.the-variants.{Accepted, Refused}
 use Rattle.bookreader.specs.Reading.{readOf}
+use Rattle.sampling.specs.Entries.{TableEntries}
 use Rattle.clearing.specs.declared.Clearing.{Clearing}
 use Rattle.awardtheorems.proofs.Counts.{few-rows}
 use Rattle.bookanswers.specs.BookAnswers.{bookOf}
 use Rattle.tender.specs.FromText.{clearText}
+use Rattle.awardnumbers.specs.Numbers.{FewRows}
 
-pub few : (t : List ℕ) → clearText t .verdict ≡ Accepted → clearText t .award .count ≤ 8
+pub few : (table : TableEntries) (t : List ℕ) → FewRows (clearText table t)
 unfolding clearText
-few t h = go (readOf t .verdict) refl
+few table t h = go (readOf t .verdict) refl
   where
-    go : (v : Verdict) → readOf t .verdict ≡ v → clearText t .award .count ≤ 8
-    go Accepted e = rw e (few-rows (bookOf t) (rw e at h))
+    go : (v : Verdict) → readOf t .verdict ≡ v → clearText table t .award .count ≤ 8
+    go Accepted e = rw e (few-rows (bookOf t) table (rw e at h))
     go (Refused rule place) e = rw e (omega arith)
 
 -- said of the answer as it is at hand
-pub few-answered : (t : List ℕ) (answer : Clearing) → answer ≡ clearText t → answer .verdict ≡ Accepted → answer .award .count ≤ 8
-few-answered t answer e told =
-    subst (λ (c : Clearing). c .award .count ≤ 8) (sym e) (few t (ap (λ (c : Clearing). c .verdict) (sym e) ∙ told))
+pub few-answered : (table : TableEntries) (t : List ℕ) (answer : Clearing) → answer ≡ clearText table t → FewRows answer
+few-answered table t answer e = subst FewRows (sym e) (few table t)

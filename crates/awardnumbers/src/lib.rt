@@ -1,7 +1,8 @@
 // The award of a text as numbers: what C gets.
 ghost use mathlib.Core.Path.{_≡_};
 ghost use lib.ListN.{length};
-ghost use Rattle.awardnumbers.specs.Numbers.{awardAnswer, awardOutput};
+ghost use Rattle.awardnumbers.specs.Numbers.{numbersAnswer, numbersOutput, FewRows, awardAnswer, awardOutput};
+use clearing::Clearing;
 use refusal::Rule;
 use refusal::Verdict;
 
@@ -22,12 +23,12 @@ fn refused(verdict: Verdict) -> AwardNumbers
     }
 }
 
-// The award of a text's book: refused as the text is cleared, then by 10 with the bytes needed. With a refusal the list is unchanged.
-pub fn award(text: &[u8], rows: &mut [u64]) -> AwardNumbers
-    ensures { λ r. ⌜ r ≡ awardAnswer (now (text .entry)) (length (now (rows .entry))) ⌝ }
-    ensures { λ _. ⌜ now (rows .exit) ≡ awardOutput (now (text .entry)) (now (rows .entry)) ⌝ }
+// What was cleared, as numbers: refused as it was cleared, then by 10 with the bytes needed. With a refusal the list is unchanged.
+fn numbers(cleared: Clearing, rows: &mut [u64]) -> AwardNumbers
+    requires { ⌜ FewRows cleared ⌝ }
+    ensures { λ r. ⌜ r ≡ numbersAnswer cleared (length (now (rows .entry))) ⌝ }
+    ensures { λ _. ⌜ now (rows .exit) ≡ numbersOutput cleared (now (rows .entry)) ⌝ }
 {
-    let cleared = tender::clear(text);
     let verdict = cleared.verdict;
     if let Verdict::Refused(_, _) = verdict {
         return refused(verdict);
@@ -44,4 +45,13 @@ pub fn award(text: &[u8], rows: &mut [u64]) -> AwardNumbers
         total: money::magnitude(total),
         count: count as u64,
     }
+}
+
+// The award of a text's book, sampled by the printed table.
+pub fn award(text: &[u8], rows: &mut [u64]) -> AwardNumbers
+    ensures { λ r. ⌜ r ≡ awardAnswer (now (text .entry)) (length (now (rows .entry))) ⌝ }
+    ensures { λ _. ⌜ now (rows .exit) ≡ awardOutput (now (text .entry)) (now (rows .entry)) ⌝ }
+{
+    let cleared = tender::clear(text);
+    numbers(cleared, rows)
 }

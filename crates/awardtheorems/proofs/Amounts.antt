@@ -26,8 +26,8 @@ use Rattle.supply.specs.Supply.{supplyOf, suppliesOf, offers}
 use Rattle.supply.specs.Sound.{mostBlanks}
 use Rattle.supply.proofs.Supply.{number-few}
 use Rattle.supply.proofs.Accepted.{mostCents, supply-small}
-use Rattle.sampling.specs.declared.Band.{Band}
-use Rattle.sampling.specs.Sampling.{printedTable, sampleAbove, sampleOf}
+use Rattle.sampling.specs.Entries.{TableEntries}
+use Rattle.sampling.specs.Sampling.{sampleOf}
 use Rattle.divisions.specs.Division.{Allocation}
 use Rattle.divisions.specs.Award.{Priced, awardOfBook}
 use Rattle.award.specs.declared.Total.{Total}
@@ -42,21 +42,6 @@ use Rattle.awardtheorems.proofs.Counts.{few-bids, bids-within, bids-cou
 use Rattle.awardtheorems.proofs.Costs.{UpTo, price-up-to, mostTotal, award-up-to}
 use Rattle.awardtheorems.proofs.Cleared.{award-of-book, no-other-cheaper, row-is}
 
-either-small : (t : Bool) (m n most : ℕ) → m ≤ most → n ≤ most → cond t m n ≤ most
-either-small true m n most h k = h
-either-small false m n most h k = k
-
-sample-small : (most before : ℕ) (bands : List Band) (q : ℕ) → All (λ (b : Band). leb (b .sample) most ≡ true) bands → sampleAbove before bands q ≤ most
-unfolding sampleAbove
-sample-small most before [] q h = omega arith
-sample-small most before (b ∷ bs) q h =
-    either-small (ltb before q && leb q (b .highest)) (b .sample) (sampleAbove (b .highest) bs q) most (leb-true (b .sample) most (h .0))
-    (sample-small most (b .highest) bs q (h .1))
-
-printed-small : (q : ℕ) → sampleOf printedTable q ≤ 1250
-unfolding sampleOf printedTable every
-printed-small q = sample-small 1250 0 printedTable q (all-tested (λ (b : Band). leb (b .sample) 1250) printedTable refl)
-
 -- what a bidder of an allocation is given, it offers
 offered-at : (bids : List BidEntries) (rs : List ℕ) (d : BidEntries) → Allocation (suppliesOf bids) rs → (i : ℕ) → i < length bids
     → offers (supplyOf (getD bids i d)) (getD rs i 0) ≡ true
@@ -70,24 +55,28 @@ abbrev pub TotalUpTo : ℕ → Total → Type 0
 TotalUpTo most (Amount cents) = UpTo most (cents .0)
 TotalUpTo most Nothing = Unit {0}
 
+-- a table that samples at most 99,999 blanks of any quantity
+abbrev pub SmallSamples : TableEntries → Type 0
+SmallSamples table = (q : ℕ) → sampleOf table q ≤ 99999
+
 -- the numbers of a row: no amount is negative
 pub record RowUpTo (row : Row) : Type 0 where
   pub bidder : row .bidder ≤ 9999
   pub segment : row .segment ≤ 6
   pub quantity : row .quantity .0 ≤ mostBlanks
   pub price : UpTo mostCents (row .price .0)
-  pub sample : row .sample .0 ≤ 1250
+  pub sample : row .sample .0 ≤ 99999
   pub without : TotalUpTo mostTotal (row .without)
 
-row-up-to : (b : BidEntries) (r : ℕ) (t : Total) → AcceptedBid b → length (b .segments) ≤ 6 → offers (supplyOf b) r ≡ true → TotalUpTo mostTotal t
-    → RowUpTo (rowOf b r t)
+row-up-to : (table : TableEntries) → SmallSamples table → (b : BidEntries) (r : ℕ) (t : Total) → AcceptedBid b → length (b .segments) ≤ 6 → offers (supplyOf b) r ≡ true → TotalUpTo mostTotal t
+    → RowUpTo (rowOf table b r t)
 unfolding rowOf
-row-up-to b r t a few o total = record {
+row-up-to table small b r t a few o total = record {
   bidder = a .bidder-high;
   segment = omega (arith, number-few b r);
   quantity = supply-small b a r o .quantity;
   price = price-up-to b r a o;
-  sample = printed-small r;
+  sample = small r;
   without = total;
 }
 
@@ -104,12 +93,12 @@ module _ (b : BookEntries) (bids : All AcceptedBid (b .bids)) (few : length (b .
   unfolding totalWithout bookWithout
   without-up-to i = total-up-to (bookWithout i b) (all-removed AcceptedBid i (b .bids) bids) (omega (arith, length-removed i (b .bids)))
 
-module _ (book : Book) (held : length (book .bids) ≡ 8) (accepted : clearOf (bookEntries book) .verdict ≡ Accepted) where
+module _ (table : TableEntries) (book : Book) (held : length (book .bids) ≡ 8) (accepted : clearOf table (bookEntries book) .verdict ≡ Accepted) where
   abbrev b : BookEntries
   b = bookEntries book
 
   is-accepted : bookVerdict b ≡ Accepted
-  is-accepted = cleared b accepted .accepted
+  is-accepted = cleared table b accepted .accepted
 
   few : length (b .bids) ≤ 8
   few = omega (arith, few-bids b is-accepted, bids-counted book held is-accepted)
@@ -118,12 +107,12 @@ module _ (book : Book) (held : length (book .bids) ≡ 8) (accepted : clearOf (b
   bids = all-accepted b is-accepted
 
   -- the demand, the total and every row
-  pub demand-up-to : clearOf b .award .demand .0 ≤ mostBlanks
+  pub demand-up-to : clearOf table b .award .demand .0 ≤ mostBlanks
   unfolding awardRecord
-  demand-up-to = rw (cleared b accepted .answer) (book-accepted b is-accepted .demand-high)
+  demand-up-to = rw (cleared table b accepted .answer) (book-accepted b is-accepted .demand-high)
 
-  pub total-from-zero : UpTo mostTotal (clearOf b .award .total .0)
-  total-from-zero = award-up-to b bids few (awarded (clearOf b .award)) (no-other-cheaper book held accepted)
+  pub total-from-zero : UpTo mostTotal (clearOf table b .award .total .0)
+  total-from-zero = award-up-to b bids few (awarded (clearOf table b .award)) (no-other-cheaper table book held accepted)
 
   segments-few : (i : ℕ) → i < b .count → length (getD (b .bids) i (bidEntries noBid) .segments) ≤ 6
   segments-few i h =
@@ -133,13 +122,13 @@ module _ (book : Book) (held : length (book .bids) ≡ 8) (accepted : clearOf (b
       let short = take-most (bid .count) (bid .segments) .0 in
       rw (entry-at (book .bids) (book .count) within i h) (omega (arith, a .count-high, short))
 
-  pub rows-up-to : (i : ℕ) → i < b .count → RowUpTo (rowAt (clearOf b .award) i)
-  rows-up-to i h =
+  pub rows-up-to : SmallSamples table → (i : ℕ) → i < b .count → RowUpTo (rowAt (clearOf table b .award) i)
+  rows-up-to small i h =
       let bid : BidEntries = getD (b .bids) i (bidEntries noBid) in
       let within : i < length (b .bids) = omega (arith, bids-counted book held is-accepted) in
-      let quantities = awarded (clearOf b .award) .quantities in
-      let offered = offered-at (b .bids) quantities (bidEntries noBid) (no-other-cheaper book held accepted .division .allocation) i within in
+      let quantities = awarded (clearOf table b .award) .quantities in
+      let offered = offered-at (b .bids) quantities (bidEntries noBid) (no-other-cheaper table book held accepted .division .allocation) i within in
       let row =
-      row-up-to bid (getD quantities i 0) (totalWithout b i) (all-at AcceptedBid (bidEntries noBid) (b .bids) bids i within) (segments-few i h) offered
+      row-up-to table small bid (getD quantities i 0) (totalWithout b i) (all-at AcceptedBid (bidEntries noBid) (b .bids) bids i within) (segments-few i h) offered
       (without-up-to b bids few i) in
-      subst RowUpTo (sym (row-is book held accepted i h)) row
+      subst RowUpTo (sym (row-is table book held accepted i h)) row

@@ -9,6 +9,7 @@ use Rattle.refusal.specs.declared.Verdict.the-variants.{Accepted, Refused}
 use Rattle.book.specs.declared.Book.{Book}
 use Rattle.book.specs.Entries.{BookEntries, bookEntries, SameBook}
 use Rattle.book.specs.Rules.{bookVerdict}
+use Rattle.sampling.specs.Entries.{TableEntries}
 use Rattle.divisions.specs.Award.{Priced, awardOfBook}
 use Rattle.award.specs.Award.{noAward}
 use Rattle.clearing.specs.declared.Clearing.{Clearing}
@@ -17,30 +18,30 @@ use Rattle.clearing.proofs.Answers.{rules-first, no-division, covered, division
 use Rattle.awardtheorems.proofs.Apart.{accepted-refused}
 
 -- the same book, the same answer
-pub same-clear : (a b : Book) → SameBook a b → clearOf (bookEntries a) ≡ clearOf (bookEntries b)
-same-clear a b e = ap clearOf e
+pub same-clear : (table : TableEntries) (a b : Book) → SameBook a b → clearOf table (bookEntries a) ≡ clearOf table (bookEntries b)
+same-clear table a b e = ap (clearOf table) e
 
-module _ (b : BookEntries) where
+module _ (table : TableEntries) (b : BookEntries) where
   -- an answer that is accepted has an award
   pub record Cleared : Type 0 where
     pub accepted : bookVerdict b ≡ Accepted
     pub award : Priced
     pub is-award : awardOfBook b ≡ some award
-    pub answer : clearOf b ≡ covered b award
+    pub answer : clearOf table b ≡ covered table b award
 
-  pub cleared : clearOf b .verdict ≡ Accepted → Cleared
+  pub cleared : clearOf table b .verdict ≡ Accepted → Cleared
   cleared h = go (bookVerdict b) refl (awardOfBook b) refl
     where
       go : (v : Verdict) → bookVerdict b ≡ v → (o : Option Priced) → awardOfBook b ≡ o → Cleared
-      go (Refused rule line) e o f = absurd (accepted-refused (clearOf b .verdict) rule line h (ap (λ (c : Clearing). c .verdict) (rules-first b rule line e)))
-      go Accepted e none f = absurd (accepted-refused (clearOf b .verdict) NotCovered 0 h (ap (λ (c : Clearing). c .verdict) (no-division b e f)))
-      go Accepted e (some award) f = record { accepted = e; award = award; is-award = f; answer = division b award e f }
+      go (Refused rule line) e o f = absurd (accepted-refused (clearOf table b .verdict) rule line h (ap (λ (c : Clearing). c .verdict) (rules-first table b rule line e)))
+      go Accepted e none f = absurd (accepted-refused (clearOf table b .verdict) NotCovered 0 h (ap (λ (c : Clearing). c .verdict) (no-division table b e f)))
+      go Accepted e (some award) f = record { accepted = e; award = award; is-award = f; answer = division table b award e f }
 
   -- with each refusal the award is all zeros and `none`
-  pub refused-blank : (rule : Rule) (place : ℕ) → clearOf b .verdict ≡ Refused rule place → clearOf b .award ≡ noAward
+  pub refused-blank : (rule : Rule) (place : ℕ) → clearOf table b .verdict ≡ Refused rule place → clearOf table b .award ≡ noAward
   refused-blank rule place h = go (bookVerdict b) refl (awardOfBook b) refl
     where
-      go : (v : Verdict) → bookVerdict b ≡ v → (o : Option Priced) → awardOfBook b ≡ o → clearOf b .award ≡ noAward
-      go (Refused first line) e o f = ap (λ (c : Clearing). c .award) (rules-first b first line e)
-      go Accepted e none f = ap (λ (c : Clearing). c .award) (no-division b e f)
-      go Accepted e (some award) f = absurd (accepted-refused (clearOf b .verdict) rule place (ap (λ (c : Clearing). c .verdict) (division b award e f)) h)
+      go : (v : Verdict) → bookVerdict b ≡ v → (o : Option Priced) → awardOfBook b ≡ o → clearOf table b .award ≡ noAward
+      go (Refused first line) e o f = ap (λ (c : Clearing). c .award) (rules-first table b first line e)
+      go Accepted e none f = ap (λ (c : Clearing). c .award) (no-division table b e f)
+      go Accepted e (some award) f = absurd (accepted-refused (clearOf table b .verdict) rule place (ap (λ (c : Clearing). c .verdict) (division table b award e f)) h)

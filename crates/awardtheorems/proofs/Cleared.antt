@@ -18,6 +18,7 @@ use Rattle.book.proofs.Records.{noBid}
 use Rattle.book.proofs.Accepted.{book-accepted, all-accepted}
 use Rattle.supply.specs.Supply.{suppliesOf}
 use Rattle.supply.specs.Allocation.{bought}
+use Rattle.sampling.specs.Entries.{TableEntries}
 use Rattle.divisions.specs.Division.{Allocation}
 use Rattle.divisions.specs.Award.{Priced, awardOfBook}
 use Rattle.divisions.specs.IsAward.{insideCount}
@@ -49,24 +50,24 @@ module _ (b : BookEntries) where
   no-award-of-book = no-award-iff (b .demand) (suppliesOf (b .bids))
 
   -- "not covered" is said exactly when there is no division
-  pub not-covered-iff : bookVerdict b ≡ Accepted → (clearOf b .verdict ≡ Refused NotCovered 0) ↔ ((rs : List ℕ) → DivisionOf b rs → ⊥)
-  not-covered-iff e = (λ h. no-award-of-book .0 (none-of (awardOfBook b) refl h), λ f. ap (λ (c : Clearing). c .verdict) (no-division b e (no-award-of-book .1 f)))
+  pub not-covered-iff : (table : TableEntries) → bookVerdict b ≡ Accepted → (clearOf table b .verdict ≡ Refused NotCovered 0) ↔ ((rs : List ℕ) → DivisionOf b rs → ⊥)
+  not-covered-iff table e = (λ h. no-award-of-book .0 (none-of (awardOfBook b) refl h), λ f. ap (λ (c : Clearing). c .verdict) (no-division table b e (no-award-of-book .1 f)))
     where
-      none-of : (o : Option Priced) → awardOfBook b ≡ o → clearOf b .verdict ≡ Refused NotCovered 0 → awardOfBook b ≡ none
+      none-of : (o : Option Priced) → awardOfBook b ≡ o → clearOf table b .verdict ≡ Refused NotCovered 0 → awardOfBook b ≡ none
       none-of none f h = f
       none-of (some award) f h =
-          absurd (accepted-refused (clearOf b .verdict) NotCovered 0 (ap (λ (c : Clearing). c .verdict) (division b award e f)) h)
+          absurd (accepted-refused (clearOf table b .verdict) NotCovered 0 (ap (λ (c : Clearing). c .verdict) (division table b award e f)) h)
 
   -- and an accepted book is covered exactly when there is one
-  pub covered-iff : bookVerdict b ≡ Accepted → (clearOf b .verdict ≡ Accepted) ↔ ((rs : List ℕ) × DivisionOf b rs)
-  covered-iff e = (
-    λ h. let c = cleared b h in (c .award .quantities, award-of-book (c .award) (c .is-award) .division),
+  pub covered-iff : (table : TableEntries) → bookVerdict b ≡ Accepted → (clearOf table b .verdict ≡ Accepted) ↔ ((rs : List ℕ) × DivisionOf b rs)
+  covered-iff table e = (
+    λ h. let c = cleared table b h in (c .award .quantities, award-of-book (c .award) (c .is-award) .division),
     λ d. some-of (awardOfBook b) refl (d .0) (d .1),
   )
     where
-      some-of : (o : Option Priced) → awardOfBook b ≡ o → (rs : List ℕ) → DivisionOf b rs → clearOf b .verdict ≡ Accepted
+      some-of : (o : Option Priced) → awardOfBook b ≡ o → (rs : List ℕ) → DivisionOf b rs → clearOf table b .verdict ≡ Accepted
       some-of none f rs d = absurd (no-award-of-book .0 f rs d)
-      some-of (some award) f rs d = ap (λ (c : Clearing). c .verdict) (division b award e f)
+      some-of (some award) f rs d = ap (λ (c : Clearing). c .verdict) (division table b award e f)
 
   -- a total is `none` exactly when there is no division, and else the cost of the award
   total-none-iff : (totalOf (awardOfBook b) ≡ Nothing) ↔ ((rs : List ℕ) → DivisionOf b rs → ⊥)
@@ -95,16 +96,16 @@ nobody-sells b rs nobody some-demand d = go rs (subst (λ (bs : List BidEntries)
     go [] a e = omega arith
     go (r ∷ rs) a e = a
 
-module _ (book : Book) (held : length (book .bids) ≡ 8) where
+module _ (table : TableEntries) (book : Book) (held : length (book .bids) ≡ 8) where
   abbrev b : BookEntries
   b = bookEntries book
 
   abbrev answer : Clearing
-  answer = clearOf b
+  answer = clearOf table b
 
   module _ (accepted : answer .verdict ≡ Accepted) where
-    c : Cleared b
-    c = cleared b accepted
+    c : Cleared table b
+    c = cleared table b accepted
 
     is-award : IsAwardOf b (c .award)
     is-award = award-of-book b (c .award) (c .is-award)
@@ -115,7 +116,7 @@ module _ (book : Book) (held : length (book .bids) ≡ 8) where
     says : awarded (answer .award) ≡ c .award
     says =
         ap (λ (x : Clearing). awarded (x .award)) (c .answer)
-        ∙ record-awarded b (few-bids b (c .accepted)) (bids-counted book held (c .accepted)) (c .award) many
+        ∙ record-awarded table b (few-bids b (c .accepted)) (bids-counted book held (c .accepted)) (c .award) many
 
     -- the award is one of the divisions, every other division costs more, or costs the same and gives less to the first bidder at
     -- whom the two differ; the total is its cost
@@ -124,16 +125,16 @@ module _ (book : Book) (held : length (book .bids) ≡ 8) where
 
     -- the row of each bid is that of what it sells; the rows past the bids are zeros and `none`
     pub row-is : (i : ℕ) → i < b .count
-        → rowAt (answer .award) i ≡ rowOf (getD (b .bids) i (bidEntries noBid)) (getD (awarded (answer .award) .quantities) i 0) (totalWithout b i)
+        → rowAt (answer .award) i ≡ rowOf table (getD (b .bids) i (bidEntries noBid)) (getD (awarded (answer .award) .quantities) i 0) (totalWithout b i)
     row-is i h =
         ap (λ (x : Clearing). rowAt (x .award) i) (c .answer)
-        ∙ record-row b (few-bids b (c .accepted)) (bids-counted book held (c .accepted)) (c .award) many (bidEntries noBid) i h
-        ∙ ap (λ (d : Priced). rowOf (getD (b .bids) i (bidEntries noBid)) (getD (d .quantities) i 0) (totalWithout b i)) (sym says)
+        ∙ record-row table b (few-bids b (c .accepted)) (bids-counted book held (c .accepted)) (c .award) many (bidEntries noBid) i h
+        ∙ ap (λ (d : Priced). rowOf table (getD (b .bids) i (bidEntries noBid)) (getD (d .quantities) i 0) (totalWithout b i)) (sym says)
 
     pub past-rows : (i : ℕ) → b .count ≤ i → rowAt (answer .award) i ≡ noRow
     past-rows i h =
         ap (λ (x : Clearing). rowAt (x .award) i) (c .answer)
-        ∙ record-past b (few-bids b (c .accepted)) (bids-counted book held (c .accepted)) (c .award) many i h
+        ∙ record-past table b (few-bids b (c .accepted)) (bids-counted book held (c .accepted)) (c .award) many i h
 
     -- the total shown without a bidder is that of the award of the other bids
     pub without-is : (i : ℕ) → i < b .count → rowAt (answer .award) i .without ≡ totalOf (awardOfBook (bookWithout i b))

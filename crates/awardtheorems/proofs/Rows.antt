@@ -7,6 +7,7 @@ use lib.ListN.{length, getD}
 use lib.Seq.{getD-take}
 use Rattle.lists.proofs.Padded.{take-count, padded-past}
 use Rattle.book.specs.Entries.{BidEntries, BookEntries}
+use Rattle.sampling.specs.Entries.{TableEntries}
 use Rattle.divisions.specs.Award.{Priced}
 use Rattle.award.specs.declared.Row.{Row}
 use Rattle.award.specs.Award.{noRow, rowOf}
@@ -15,9 +16,9 @@ use Rattle.clearing.specs.Clearing.{rowsFrom, awardRecord}
 use Rattle.clearing.proofs.Made.{length-rows, row-at}
 use Rattle.awardtheorems.specs.Awarded.{rowsOf, rowAt, awarded}
 
-module _ (b : BookEntries) where
+module _ (table : TableEntries) (b : BookEntries) where
   rows-quantities : (i : ℕ) (bids : List BidEntries) (rs : List ℕ) → length rs ≡ length bids
-      → map (λ (row : Row). row .quantity .0) (rowsFrom b i bids rs) ≡ rs
+      → map (λ (row : Row). row .quantity .0) (rowsFrom table b i bids rs) ≡ rs
   unfolding rowsFrom rowOf
   rows-quantities i [] [] e = refl
   rows-quantities i [] (r ∷ rs) e = absurd (omega arith)
@@ -26,14 +27,14 @@ module _ (b : BookEntries) where
 
   module _ (few : b .count ≤ 8) (complete : length (b .bids) ≡ b .count) (award : Priced) (as-many : length (award .quantities) ≡ length (b .bids)) where
     abbrev listed : List Row
-    listed = rowsFrom b 0 (b .bids) (award .quantities)
+    listed = rowsFrom table b 0 (b .bids) (award .quantities)
 
-    rows-listed : rowsOf (awardRecord b award) ≡ listed
+    rows-listed : rowsOf (awardRecord table b award) ≡ listed
     unfolding awardRecord
-    rows-listed = take-count 8 (b .count) noRow listed (sym complete ∙ sym (length-rows b 0 (b .bids) (award .quantities) (sym as-many))) few
+    rows-listed = take-count 8 (b .count) noRow listed (sym complete ∙ sym (length-rows table b 0 (b .bids) (award .quantities) (sym as-many))) few
 
     -- the record says what is sold
-    pub record-awarded : awarded (awardRecord b award) ≡ award
+    pub record-awarded : awarded (awardRecord table b award) ≡ award
     unfolding awardRecord
     record-awarded =
         let sold = ap (map (λ (row : Row). row .quantity .0)) rows-listed ∙ rows-quantities 0 (b .bids) (award .quantities) as-many in
@@ -41,19 +42,19 @@ module _ (b : BookEntries) where
 
     -- each row is that of its bid
     pub record-row : (none : BidEntries) (i : ℕ) → i < b .count
-        → rowAt (awardRecord b award) i ≡ rowOf (getD (b .bids) i none) (getD (award .quantities) i 0) (totalWithout b i)
+        → rowAt (awardRecord table b award) i ≡ rowOf table (getD (b .bids) i none) (getD (award .quantities) i 0) (totalWithout b i)
     unfolding awardRecord
     record-row none i h =
-        let rows = awardRecord b award .rows in
+        let rows = awardRecord table b award .rows in
         let bid : i < length (b .bids) = omega arith in
         sym (getD-take (b .count) rows i noRow h)
         ∙ ap (λ (l : List Row). getD l i noRow) rows-listed
-        ∙ row-at b 0 (b .bids) (award .quantities) i none bid (omega arith)
-        ∙ ap (λ (n : ℕ). rowOf (getD (b .bids) i none) (getD (award .quantities) i 0) (totalWithout b n)) (omega arith)
+        ∙ row-at table b 0 (b .bids) (award .quantities) i none bid (omega arith)
+        ∙ ap (λ (n : ℕ). rowOf table (getD (b .bids) i none) (getD (award .quantities) i 0) (totalWithout b n)) (omega arith)
 
     -- past the bids, zeros and `none`
-    pub record-past : (i : ℕ) → b .count ≤ i → rowAt (awardRecord b award) i ≡ noRow
+    pub record-past : (i : ℕ) → b .count ≤ i → rowAt (awardRecord table b award) i ≡ noRow
     unfolding awardRecord
     record-past i h =
-        let size = length-rows b 0 (b .bids) (award .quantities) (sym as-many) in
+        let size = length-rows table b 0 (b .bids) (award .quantities) (sym as-many) in
         padded-past 8 noRow listed i (omega arith) (omega arith)

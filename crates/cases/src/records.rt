@@ -46,7 +46,8 @@ fn award(layout: Layout, book: Book, out: &mut [u8]) {
 // Of the first quantity.
 fn sample(quantities: &[u64]) {
     if 0 < quantities.len() {
-        show::number(sampling::sample(Blanks(quantities[0])).0);
+        let table = sampling::printed();
+        show::number(sampling::sample(table, Blanks(quantities[0])).0);
     }
 }
 

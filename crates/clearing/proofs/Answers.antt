@@ -13,6 +13,7 @@ use Rattle.book.specs.declared.Book.{Book}
 use Rattle.book.specs.Entries.{BookEntries, bookEntries}
 use Rattle.book.specs.Rules.{bookVerdict}
 use Rattle.supply.specs.Supply.{suppliesOf}
+use Rattle.sampling.specs.Entries.{TableEntries}
 use Rattle.divisions.specs.Award.{Priced, awardOf, awardOfBook}
 use Rattle.comparison.specs.declared.MaybeDivision.{MaybeDivision}
 use Rattle.comparison.specs.Records.{blanksIn, divisionIn, found}
@@ -23,26 +24,26 @@ use Rattle.without.proofs.Found.{award-none}
 use Rattle.clearing.specs.Clearing.{rowsFrom, awardRecord, refusedClearing, clearedBook, clearOf, BookAward}
 
 -- A book's own refusal, no division, or an award.
-module _ (b : BookEntries) where
+module _ (table : TableEntries) (b : BookEntries) where
   -- a refusal by rules 3 to 8 comes first
-  pub rules-first : (rule : Rule) (line : ℕ) → bookVerdict b ≡ Refused rule line → clearOf b ≡ refusedClearing (Refused rule line)
+  pub rules-first : (rule : Rule) (line : ℕ) → bookVerdict b ≡ Refused rule line → clearOf table b ≡ refusedClearing (Refused rule line)
   unfolding clearOf
   rules-first rule line e = rw e
 
-  rules-passed : bookVerdict b ≡ Accepted → clearOf b ≡ clearedBook b (awardOfBook b)
+  rules-passed : bookVerdict b ≡ Accepted → clearOf table b ≡ clearedBook table b (awardOfBook b)
   unfolding clearOf
   rules-passed e = rw e
 
-  pub no-division : bookVerdict b ≡ Accepted → awardOfBook b ≡ none → clearOf b ≡ refusedClearing (Refused NotCovered 0)
+  pub no-division : bookVerdict b ≡ Accepted → awardOfBook b ≡ none → clearOf table b ≡ refusedClearing (Refused NotCovered 0)
   unfolding clearedBook
-  no-division e f = rules-passed e ∙ ap (clearedBook b) f
+  no-division e f = rules-passed e ∙ ap (clearedBook table b) f
 
   abbrev pub covered : Priced → Clearing
-  covered award = record { verdict = Accepted; award = awardRecord b award }
+  covered award = record { verdict = Accepted; award = awardRecord table b award }
 
-  pub division : (award : Priced) → bookVerdict b ≡ Accepted → awardOfBook b ≡ some award → clearOf b ≡ covered award
+  pub division : (award : Priced) → bookVerdict b ≡ Accepted → awardOfBook b ≡ some award → clearOf table b ≡ covered award
   unfolding clearedBook
-  division award e f = rules-passed e ∙ ap (clearedBook b) f
+  division award e f = rules-passed e ∙ ap (clearedBook table b) f
 
 -- what clearing gives with these rows, where a division was found
 abbrev awarded : Book → MaybeDivision → List Row → Clearing
@@ -52,12 +53,12 @@ awarded book best rows = record {
 }
 
 -- From the search's answer for the record of an accepted book: that there is no division, or the award.
-pub clear-none : (book : Book) (best : MaybeDivision) → found (book .count) best ≡ awardOf (book .demand .0) (suppliesOf (bookEntries book .bids))
-    → bookVerdict (bookEntries book) ≡ Accepted → best .found ≡ false → refusedClearing (Refused NotCovered 0) ≡ clearOf (bookEntries book)
-clear-none book best searched accepted h = sym (no-division (bookEntries book) accepted (award-none book best searched h))
+pub clear-none : (table : TableEntries) (book : Book) (best : MaybeDivision) → found (book .count) best ≡ awardOf (book .demand .0) (suppliesOf (bookEntries book .bids))
+    → bookVerdict (bookEntries book) ≡ Accepted → best .found ≡ false → refusedClearing (Refused NotCovered 0) ≡ clearOf table (bookEntries book)
+clear-none table book best searched accepted h = sym (no-division table (bookEntries book) accepted (award-none book best searched h))
 
-pub clear-award : (book : Book) (best : MaybeDivision) → BookAward book best → (rows : List Row)
-    → rows ≡ padded 8 noRow (rowsFrom (bookEntries book) 0 (bookEntries book .bids) (take (book .count) (blanksIn (best .quantities))))
-    → awarded book best rows ≡ clearOf (bookEntries book)
+pub clear-award : (table : TableEntries) (book : Book) (best : MaybeDivision) → BookAward book best → (rows : List Row)
+    → rows ≡ padded 8 noRow (rowsFrom table (bookEntries book) 0 (bookEntries book .bids) (take (book .count) (blanksIn (best .quantities))))
+    → awarded book best rows ≡ clearOf table (bookEntries book)
 unfolding awardRecord
-clear-award book best is rows e = rw e (sym (division (bookEntries book) (divisionIn (book .count) best) (is .accepted) (is .is-award)))
+clear-award table book best is rows e = rw e (sym (division table (bookEntries book) (divisionIn (book .count) best) (is .accepted) (is .is-award)))

@@ -14,6 +14,7 @@ use Rattle.book.specs.declared.Book.{Book}
 use Rattle.book.specs.Entries.{BidEntries, BookEntries, bidEntries, bookEntries}
 use Rattle.book.proofs.Records.{noBid}
 use Rattle.book.proofs.Bids.{length-entries, entry-at}
+use Rattle.sampling.specs.Entries.{TableEntries}
 use Rattle.comparison.specs.Records.{blanksIn}
 use Rattle.award.specs.declared.Row.{Row}
 use Rattle.award.specs.Award.{noRow, rowOf}
@@ -21,28 +22,28 @@ use Rattle.without.specs.Without.{totalWithout}
 use Rattle.without.proofs.Found.{quantity-at}
 use Rattle.clearing.specs.Clearing.{rowsFrom}
 
-pub length-rows : (b : BookEntries) (k : ℕ) (bids : List BidEntries) (rs : List ℕ) → length bids ≡ length rs
-    → length (rowsFrom b k bids rs) ≡ length bids
+pub length-rows : (table : TableEntries) (b : BookEntries) (k : ℕ) (bids : List BidEntries) (rs : List ℕ) → length bids ≡ length rs
+    → length (rowsFrom table b k bids rs) ≡ length bids
 unfolding rowsFrom
-length-rows b k [] rs e = refl
-length-rows b k (bid ∷ bids) [] e = absurd (omega arith)
-length-rows b k (bid ∷ bids) (r ∷ rs) e = ap suc (length-rows b (suc k) bids rs (omega arith))
+length-rows table b k [] rs e = refl
+length-rows table b k (bid ∷ bids) [] e = absurd (omega arith)
+length-rows table b k (bid ∷ bids) (r ∷ rs) e = ap suc (length-rows table b (suc k) bids rs (omega arith))
 
-pub row-at : (b : BookEntries) (k : ℕ) (bids : List BidEntries) (rs : List ℕ) (i : ℕ) (d : BidEntries) → i < length bids → i < length rs
-    → getD (rowsFrom b k bids rs) i noRow ≡ rowOf (getD bids i d) (getD rs i 0) (totalWithout b (k + i))
+pub row-at : (table : TableEntries) (b : BookEntries) (k : ℕ) (bids : List BidEntries) (rs : List ℕ) (i : ℕ) (d : BidEntries) → i < length bids → i < length rs
+    → getD (rowsFrom table b k bids rs) i noRow ≡ rowOf table (getD bids i d) (getD rs i 0) (totalWithout b (k + i))
 unfolding rowsFrom
-row-at b k [] rs i d h l = absurd (not-suc-le-zero h)
-row-at b k (bid ∷ bids) [] i d h l = absurd (not-suc-le-zero l)
-row-at b k (bid ∷ bids) (r ∷ rs) zero d h l = ap (λ (n : ℕ). rowOf bid r (totalWithout b n)) (sym (add-zero k))
-row-at b k (bid ∷ bids) (r ∷ rs) (suc i) d h l =
+row-at table b k [] rs i d h l = absurd (not-suc-le-zero h)
+row-at table b k (bid ∷ bids) [] i d h l = absurd (not-suc-le-zero l)
+row-at table b k (bid ∷ bids) (r ∷ rs) zero d h l = ap (λ (n : ℕ). rowOf table bid r (totalWithout b n)) (sym (add-zero k))
+row-at table b k (bid ∷ bids) (r ∷ rs) (suc i) d h l =
     let same : suc k + i ≡ k + suc i = omega arith in
-    row-at b (suc k) bids rs i d (le-of-suc-le-suc h) (le-of-suc-le-suc l)
-    ∙ ap (λ (n : ℕ). rowOf (getD bids i d) (getD rs i 0) (totalWithout b n)) same
+    row-at table b (suc k) bids rs i d (le-of-suc-le-suc h) (le-of-suc-le-suc l)
+    ∙ ap (λ (n : ℕ). rowOf table (getD bids i d) (getD rs i 0) (totalWithout b n)) same
 
-module _ (book : Book) (quantities : List Blanks) where
+module _ (table : TableEntries) (book : Book) (quantities : List Blanks) where
   -- the rows of all bids
   abbrev pub allRows : List Row
-  allRows = rowsFrom (bookEntries book) 0 (bookEntries book .bids) (take (book .count) (blanksIn quantities))
+  allRows = rowsFrom table (bookEntries book) 0 (bookEntries book .bids) (take (book .count) (blanksIn quantities))
 
   -- the first i rows are made
   pub record Made (rows : List Row) (i : ℕ) : Type 0 where
@@ -66,7 +67,7 @@ module _ (book : Book) (quantities : List Blanks) where
     length-quantities = length-take-le (book .count) (blanksIn quantities) (omega (arith, length-map quantities (λ (b : Blanks). b .0)))
 
     length-all : length allRows ≡ book .count
-    length-all = length-rows (bookEntries book) 0 bids rs (length-bids ∙ sym length-quantities) ∙ length-bids
+    length-all = length-rows table (bookEntries book) 0 bids rs (length-bids ∙ sym length-quantities) ∙ length-bids
 
     -- the row of the bid with index i, from what the arrays hold there
     abbrev bid : ℕ → BidEntries
@@ -76,7 +77,7 @@ module _ (book : Book) (quantities : List Blanks) where
     quantity i = getD quantities i (record { 0 = 0 }) .0
 
     abbrev row : ℕ → Row
-    row i = rowOf (bid i) (quantity i) (totalWithout (bookEntries book) i)
+    row i = rowOf table (bid i) (quantity i) (totalWithout (bookEntries book) i)
 
     module _ (i : ℕ) (more : i < book .count) where
       the-bid : getD bids i (bidEntries noBid) ≡ bid i
@@ -87,7 +88,7 @@ module _ (book : Book) (quantities : List Blanks) where
 
       the-row : getD allRows i noRow ≡ row i
       the-row =
-          row-at (bookEntries book) 0 bids rs i (bidEntries noBid) (omega (arith, length-bids)) (omega (arith, length-quantities))
+          row-at table (bookEntries book) 0 bids rs i (bidEntries noBid) (omega (arith, length-bids)) (omega (arith, length-quantities))
           ∙ rw (zero-add i, the-bid, the-quantity)
 
       one-more : take (i + 1) allRows ≡ take i allRows ++ row i ∷ []

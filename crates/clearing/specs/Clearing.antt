@@ -11,6 +11,7 @@ use Rattle.refusal.specs.declared.Verdict.the-variants.{Accepted, Refused}
 use Rattle.book.specs.declared.Book.{Book}
 use Rattle.book.specs.Entries.{BidEntries, BookEntries, bookEntries}
 use Rattle.book.specs.Rules.{bookVerdict}
+use Rattle.sampling.specs.Entries.{TableEntries}
 use Rattle.divisions.specs.Award.{Priced, awardOfBook}
 use Rattle.comparison.specs.declared.MaybeDivision.{MaybeDivision}
 use Rattle.comparison.specs.Records.{divisionIn}
@@ -21,31 +22,31 @@ use Rattle.without.specs.Without.{totalWithout}
 use Rattle.clearing.specs.declared.Clearing.{Clearing}
 
 -- a row for each bid from index i on, with its quantity
-unfoldable pub rowsFrom : BookEntries → ℕ → List BidEntries → List ℕ → List Row
-rowsFrom b i [] rs = []
-rowsFrom b i (bid ∷ bids) [] = []
-rowsFrom b i (bid ∷ bids) (r ∷ rs) = rowOf bid r (totalWithout b i) ∷ rowsFrom b (suc i) bids rs
+unfoldable pub rowsFrom : TableEntries → BookEntries → ℕ → List BidEntries → List ℕ → List Row
+rowsFrom table b i [] rs = []
+rowsFrom table b i (bid ∷ bids) [] = []
+rowsFrom table b i (bid ∷ bids) (r ∷ rs) = rowOf table bid r (totalWithout b i) ∷ rowsFrom table b (suc i) bids rs
 
 -- demand, total price, and the rows, in book order; rows past the bids hold zeros and `none`
-unfoldable pub awardRecord : BookEntries → Priced → Award
-awardRecord b award = record {
+unfoldable pub awardRecord : TableEntries → BookEntries → Priced → Award
+awardRecord table b award = record {
   demand = record { 0 = b .demand };
   total = record { 0 = award .cost };
   count = b .count;
-  rows = padded 8 noRow (rowsFrom b 0 (b .bids) (award .quantities));
+  rows = padded 8 noRow (rowsFrom table b 0 (b .bids) (award .quantities));
 }
 
 abbrev pub refusedClearing : Verdict → Clearing
 refusedClearing verdict = record { verdict = verdict; award = noAward }
 
 -- of a book that rules 3 to 8 accept: 9 with place 0 where there is no division
-unfoldable pub clearedBook : BookEntries → Option Priced → Clearing
-clearedBook b none = refusedClearing (Refused NotCovered 0)
-clearedBook b (some award) = record { verdict = Accepted; award = awardRecord b award }
+unfoldable pub clearedBook : TableEntries → BookEntries → Option Priced → Clearing
+clearedBook table b none = refusedClearing (Refused NotCovered 0)
+clearedBook table b (some award) = record { verdict = Accepted; award = awardRecord table b award }
 
--- of every book
-unfoldable pub clearOf : BookEntries → Clearing
-clearOf b = whenAccepted (bookVerdict b) (clearedBook b (awardOfBook b)) (refusedClearing (bookVerdict b))
+-- of every book, sampled by a table
+unfoldable pub clearOf : TableEntries → BookEntries → Clearing
+clearOf table b = whenAccepted (bookVerdict b) (clearedBook table b (awardOfBook b)) (refusedClearing (bookVerdict b))
 
 -- what `rows` asks: an accepted book, and its award
 pub record BookAward (book : Book) (award : MaybeDivision) : Type 0 where

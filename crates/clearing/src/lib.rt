@@ -3,6 +3,8 @@ ghost use mathlib.Core.Path.{_≡_};
 ghost use lib.ListN.{take};
 ghost use Rattle.lists.specs.Padded.{padded};
 ghost use Rattle.book.specs.Entries.{bookEntries};
+ghost use Rattle.sampling.specs.Entries.{tableEntries};
+ghost use Rattle.sampling.specs.Sampling.{printedTable};
 ghost use Rattle.comparison.specs.Records.{blanksIn};
 ghost use Rattle.award.specs.Award.{noRow};
 ghost use Rattle.clearing.specs.Clearing.{rowsFrom, refusedClearing, clearOf, BookAward};
@@ -12,6 +14,7 @@ use book::Book;
 use comparison::MaybeDivision;
 use refusal::Rule;
 use refusal::Verdict;
+use sampling::Table;
 
 // The award of a book, or zeros and `Nothing` beside a refusal.
 pub struct Clearing {
@@ -28,9 +31,9 @@ pub fn refused(verdict: Verdict) -> Clearing
 }
 
 // A row for each bid, from the award.
-fn rows(book: Book, award: MaybeDivision) -> [Row; 8]
+fn rows(table: Table, book: Book, award: MaybeDivision) -> [Row; 8]
     requires { ⌜ BookAward book award ⌝ }
-    ensures { λ r. ⌜ r ≡ padded 8 noRow (rowsFrom (bookEntries book) 0 (bookEntries book .bids) (take (book .count) (blanksIn (award .quantities)))) ⌝ }
+    ensures { λ r. ⌜ r ≡ padded 8 noRow (rowsFrom (tableEntries table) (bookEntries book) 0 (bookEntries book .bids) (take (book .count) (blanksIn (award .quantities)))) ⌝ }
 {
     let blank = award::no_row();
     let mut rows = [blank; 8];
@@ -39,17 +42,17 @@ fn rows(book: Book, award: MaybeDivision) -> [Row; 8]
         let bid = book.bids[i];
         let quantity = award.quantities[i];
         let total = without::total_beside(book, i, award);
-        let row = award::row_of(bid, quantity, total);
+        let row = award::row_of(table, bid, quantity, total);
         rows[i] = row;
         i += 1;
     }
     rows
 }
 
-// Clears any record: refused by rules 3 to 8 as `bookrules::check` refuses it, by rule 9 where its bids
-// have no division, and else awarded.
-pub fn clear(book: Book) -> Clearing
-    ensures { λ r. ⌜ r ≡ clearOf (bookEntries book) ⌝ }
+// Clears any record, sampled by a table: refused by rules 3 to 8 as `bookrules::check` refuses it, by rule 9 where its bids have no
+// division, and else awarded. It is no entry: it does not look whether the table passes.
+pub fn clear_sampled(table: Table, book: Book) -> Clearing
+    ensures { λ r. ⌜ r ≡ clearOf (tableEntries table) (bookEntries book) ⌝ }
 {
     let verdict = bookrules::check(book);
     if let Verdict::Refused(_, _) = verdict {
@@ -62,7 +65,7 @@ pub fn clear(book: Book) -> Clearing
     let demand = book.demand;
     let total = best.cost;
     let count = book.count;
-    let rows = rows(book, best);
+    let rows = rows(table, book, best);
     let award = Award {
         demand,
         total,
@@ -73,4 +76,12 @@ pub fn clear(book: Book) -> Clearing
         verdict: Verdict::Accepted,
         award,
     }
+}
+
+// Clears any record, sampled by the printed table.
+pub fn clear(book: Book) -> Clearing
+    ensures { λ r. ⌜ r ≡ clearOf printedTable (bookEntries book) ⌝ }
+{
+    let table = sampling::printed();
+    clear_sampled(table, book)
 }

@@ -14,6 +14,7 @@ use Rattle.bookreader.specs.Reading.{readOf}
 use Rattle.refusal.proofs.Firsts.{refused-not}
 use Rattle.roundtrip.proofs.Reading.{accepted-as}
 use Rattle.roundtrip.proofs.Back.{text-read, zeros-past, book-accepted, arrays-read}
+use Rattle.sampling.specs.Entries.{TableEntries}
 use Rattle.divisions.specs.Award.{Priced, awardOfBook}
 use Rattle.award.specs.declared.Award.{Award}
 use Rattle.award.specs.declared.Row.{Row}
@@ -38,41 +39,41 @@ total-of b = go (awardOfBook b) refl
     go none e = no-award-of-book b .0 e
     go (some award) e = (award, award-of-book b award e, refl)
 
-module _ (book : Book) (held : length (book .bids) ≡ 8) (accepted : clearOf (bookEntries book) .verdict ≡ Accepted) where
+module _ (table : TableEntries) (book : Book) (held : length (book .bids) ≡ 8) (accepted : clearOf table (bookEntries book) .verdict ≡ Accepted) where
   abbrev b : BookEntries
   b = bookEntries book
 
   abbrev a : Award
-  a = clearOf b .award
+  a = clearOf table b .award
 
   -- its first line, and each row with the total that it shows
   first-line : (a .demand .0 ≡ b .demand) × (a .count ≡ b .count)
   unfolding awardRecord
   first-line =
-      let e = cleared b accepted .answer in
+      let e = cleared table b accepted .answer in
       (ap (λ (c : Clearing). c .award .demand .0) e, ap (λ (c : Clearing). c .award .count) e)
 
-  own-row : (i : ℕ) → i < b .count → rowAt a i ≡ rowOf (bidAt b i) (getD (awarded a .quantities) i 0) (rowAt a i .without)
+  own-row : (i : ℕ) → i < b .count → rowAt a i ≡ rowOf table (bidAt b i) (getD (awarded a .quantities) i 0) (rowAt a i .without)
   unfolding rowOf
   own-row i h =
-      let e = row-is book held accepted i h in
-      e ∙ ap (rowOf (bidAt b i) (getD (awarded a .quantities) i 0)) (sym (ap (λ (row : Row). row .without) e))
+      let e = row-is table book held accepted i h in
+      e ∙ ap (rowOf table (bidAt b i) (getD (awarded a .quantities) i 0)) (sym (ap (λ (row : Row). row .without) e))
 
-  pub the-award : TheAward b a
+  pub the-award : TheAward table b a
   the-award = record {
     demand = first-line .0;
     count = first-line .1;
-    best = no-other-cheaper book held accepted;
-    one-inside = one-inside book held accepted;
+    best = no-other-cheaper table book held accepted;
+    one-inside = one-inside table book held accepted;
     rows = own-row;
-    without = λ i h. subst (TotalOf (bookWithout i b)) (sym (without-is book held accepted i h)) (total-of (bookWithout i b));
+    without = λ i h. subst (TotalOf (bookWithout i b)) (sym (without-is table book held accepted i h)) (total-of (bookWithout i b));
   }
 
 -- from a text
 module _ (t : List ℕ) (accepted : readOf t .verdict ≡ Accepted) where
-  pub cleared-book : clearText t ≡ clearOf (bookOf t)
+  pub cleared-book : (table : TableEntries) → clearText table t ≡ clearOf table (bookOf t)
   unfolding clearText
-  cleared-book = rw accepted
+  cleared-book table = rw accepted
 
   pub accepted-text : AcceptedText t (bookOf t)
   accepted-text = record {
@@ -81,7 +82,7 @@ module _ (t : List ℕ) (accepted : readOf t .verdict ≡ Accepted) where
   }
 
 -- where the answer is accepted the text was, and the answer is its award
-module _ (t : List ℕ) (accepted : clearText t .verdict ≡ Accepted) where
+module _ (table : TableEntries) (t : List ℕ) (accepted : clearText table t .verdict ≡ Accepted) where
   pub was-read : readOf t .verdict ≡ Accepted
   unfolding clearText
   was-read = go (readOf t .verdict) refl
@@ -90,16 +91,17 @@ module _ (t : List ℕ) (accepted : clearText t .verdict ≡ Accepted) where
       go Accepted e = e
       go (Refused rule place) e = refused-not (rw e at accepted)
 
-  record-cleared : clearOf (bookOf t) .verdict ≡ Accepted
-  record-cleared = ap (λ (c : Clearing). c .verdict) (sym (cleared-book t was-read)) ∙ accepted
+  record-cleared : clearOf table (bookOf t) .verdict ≡ Accepted
+  record-cleared = ap (λ (c : Clearing). c .verdict) (sym (cleared-book t was-read table)) ∙ accepted
 
   -- what holds of every record that is cleared and of its award holds of the text's
   pub of-records : (P : BookEntries → Award → Type 0)
-      → ((book : Book) → length (book .bids) ≡ 8 → clearOf (bookEntries book) .verdict ≡ Accepted → P (bookEntries book) (clearOf (bookEntries book) .award))
-      → P (bookOf t) (clearText t .award)
+      → ((book : Book) → length (book .bids) ≡ 8 → clearOf table (bookEntries book) .verdict ≡ Accepted
+      → P (bookEntries book) (clearOf table (bookEntries book) .award))
+      → P (bookOf t) (clearText table t .award)
   of-records P h =
-      subst (λ (c : Clearing). P (bookOf t) (c .award)) (sym (cleared-book t was-read))
+      subst (λ (c : Clearing). P (bookOf t) (c .award)) (sym (cleared-book t was-read table))
       (h (readOf t .book) (arrays-read t was-read .bids) record-cleared)
 
-  pub its-award : TheAward (bookOf t) (clearText t .award)
-  its-award = of-records TheAward the-award
+  pub its-award : TheAward table (bookOf t) (clearText table t .award)
+  its-award = of-records (TheAward table) (the-award table)

@@ -19,6 +19,9 @@ use Rattle.book.specs.declared.Book.{Book}
 use Rattle.book.specs.Entries.{BookEntries, bookEntries}
 use Rattle.supply.specs.Sound.{mostBlanks}
 use Rattle.book.proofs.Accepted.{book-accepted}
+use Rattle.sampling.specs.Entries.{TableEntries}
+use Rattle.sampling.specs.Sampling.{printedTable}
+use Rattle.sampling.proofs.Bands.{printed-small}
 use Rattle.award.specs.declared.Total.{Total}
 use Rattle.award.specs.declared.Total.the-variants.{Amount, Nothing}
 use Rattle.award.specs.declared.Row.{Row}
@@ -30,9 +33,10 @@ use Rattle.clearing.specs.Clearing.{clearOf}
 use Rattle.awardtheorems.specs.Awarded.{rowsOf, rowAt}
 use Rattle.awardtheorems.proofs.Answers.{cleared}
 use Rattle.awardtheorems.proofs.Costs.{NotNegative, UpTo, mostTotal}
-use Rattle.awardtheorems.proofs.Amounts.{TotalUpTo, RowUpTo, demand-up-to, total-from-zero, rows-up-to}
-use Rattle.tender.specs.FromText.{clearText, sheetWritten, clearPrints}
+use Rattle.awardtheorems.proofs.Amounts.{SmallSamples, TotalUpTo, RowUpTo, demand-up-to, total-from-zero, rows-up-to}
+use Rattle.tender.specs.FromText.{clearText, clearedByPrinted, sheetWritten, clearPrints}
 use Rattle.endtoend.proofs.ClearedText.{the-award, of-records}
+use Rattle.endtoend.proofs.Places.{before-output}
 use Rattle.endtoend.proofs.LongEnough.{printed-fits, same-verdict, never-10}
 
 -- The parts of a sheet.
@@ -47,13 +51,13 @@ unfolding totalText
 total-short (Amount cents) h = amount-short 13 (cents .0) (h .not-negative) (omega (arith, h .size))
 total-short Nothing h = omega arith
 
-row-short : (row : Row) → RowUpTo row → length (rowText row) ≤ 65
+row-short : (row : Row) → RowUpTo row → length (rowText row) ≤ 66
 row-short row h =
     let bidder = length-below 3 (row .bidder) (omega (arith, h .bidder)) in
     let segment = length-below 0 (row .segment) (omega (arith, h .segment)) in
     let quantity = length-below 6 (row .quantity .0) (omega (arith, h .quantity)) in
     let price = amount-short 12 (row .price .0) (h .price .not-negative) (omega (arith, h .price .size)) in
-    let sample = length-below 3 (row .sample .0) (omega (arith, h .sample)) in
+    let sample = length-below 4 (row .sample .0) (omega (arith, h .sample)) in
     let without = total-short (row .without) (h .without) in
     omega (arith, row-size row)
 
@@ -63,57 +67,64 @@ every-row P a each = all-indexed P noRow (rowsOf a) (λ i h.
     let within : i < a .count = omega (arith, h, take-most (a .count) (a .rows) .0) in
     subst P (sym (getD-take (a .count) (a .rows) i noRow within)) (each i within))
 
--- the sheet of an award: 31 bytes, and 65 for each bid
-module _ (book : Book) (held : length (book .bids) ≡ 8) (accepted : clearOf (bookEntries book) .verdict ≡ Accepted) where
+-- the sheet of an award, by a table without large samples: 31 bytes, and 66 for each bid
+module _ (table : TableEntries) (small : SmallSamples table) (book : Book) (held : length (book .bids) ≡ 8)
+    (accepted : clearOf table (bookEntries book) .verdict ≡ Accepted) where
   abbrev a : Award
-  a = clearOf (bookEntries book) .award
+  a = clearOf table (bookEntries book) .award
 
   count-is : a .count ≡ book .count
-  count-is = the-award book held accepted .count
+  count-is = the-award table book held accepted .count
 
   pub few : a .count ≤ 8
-  few = omega (arith, count-is, book-accepted (bookEntries book) (cleared (bookEntries book) accepted .accepted) .count-high)
+  few = omega (arith, count-is, book-accepted (bookEntries book) (cleared table (bookEntries book) accepted .accepted) .count-high)
 
   pub each-up-to : (i : ℕ) → i < a .count → RowUpTo (rowAt a i)
-  each-up-to i h = rows-up-to book held accepted i (omega (arith, count-is))
+  each-up-to i h = rows-up-to table book held accepted small i (omega (arith, count-is))
 
-  pub sheet-bound : length (sheetText a) ≤ 31 + 65 * book .count
+  pub sheet-bound : length (sheetText a) ≤ 31 + 66 * book .count
   sheet-bound =
-      let demand = length-below 6 (a .demand .0) (omega (arith, demand-up-to book held accepted)) in
-      let t = total-from-zero book held accepted in
+      let demand = length-below 6 (a .demand .0) (omega (arith, demand-up-to table book held accepted)) in
+      let t = total-from-zero table book held accepted in
       let total = amount-short 13 (a .total .0) (t .not-negative) (omega (arith, t .size)) in
-      let short = every-row (λ (row : Row). length (rowText row) ≤ 65) a (λ i h. row-short (rowAt a i) (each-up-to i h)) in
-      let rows = joined-short rowText 65 (rowsOf a) short in
+      let short = every-row (λ (row : Row). length (rowText row) ≤ 66) a (λ i h. row-short (rowAt a i) (each-up-to i h)) in
+      let rows = joined-short rowText 66 (rowsOf a) short in
       let counted = take-most (a .count) (a .rows) .0 in
       omega (arith, sheet-size a, count-is)
 
-  short-sheet : length (sheetText a) ≤ 551
+  short-sheet : length (sheetText a) ≤ 559
   short-sheet = omega (arith, sheet-bound, count-is, few)
 
-module _ (t : List ℕ) where
+module _ (table : TableEntries) (small : SmallSamples table) (t : List ℕ) where
   -- Of a text that is cleared: no amount of its award is negative, and its numbers have these bounds.
-  module _ (accepted : clearText t .verdict ≡ Accepted) where
-    pub text-demand-up-to : clearText t .award .demand .0 ≤ mostBlanks
-    text-demand-up-to = of-records t accepted (λ (b : BookEntries) (a : Award). a .demand .0 ≤ mostBlanks) demand-up-to
+  module _ (accepted : clearText table t .verdict ≡ Accepted) where
+    abbrev award : Award
+    award = clearText table t .award
 
-    pub text-total-up-to : UpTo mostTotal (clearText t .award .total .0)
-    text-total-up-to = of-records t accepted (λ (b : BookEntries) (a : Award). UpTo mostTotal (a .total .0)) total-from-zero
+    pub text-demand-up-to : award .demand .0 ≤ mostBlanks
+    text-demand-up-to = of-records table t accepted (λ (b : BookEntries) (a : Award). a .demand .0 ≤ mostBlanks) (demand-up-to table)
 
-    pub text-row-up-to : (i : ℕ) → i < clearText t .award .count → RowUpTo (rowAt (clearText t .award) i)
-    text-row-up-to = of-records t accepted (λ (b : BookEntries) (a : Award). (i : ℕ) → i < a .count → RowUpTo (rowAt a i)) each-up-to
+    pub text-total-up-to : UpTo mostTotal (award .total .0)
+    text-total-up-to = of-records table t accepted (λ (b : BookEntries) (a : Award). UpTo mostTotal (a .total .0)) (total-from-zero table)
 
-    pub sheet-fits : length (sheetText (clearText t .award)) ≤ 551
-    sheet-fits = of-records t accepted (λ (b : BookEntries) (a : Award). length (sheetText a) ≤ 551) short-sheet
+    pub text-row-up-to : (i : ℕ) → i < award .count → RowUpTo (rowAt award i)
+    text-row-up-to =
+        of-records table t accepted (λ (b : BookEntries) (a : Award). (i : ℕ) → i < a .count → RowUpTo (rowAt a i)) (each-up-to table small)
 
-  -- 600 bytes hold whatever is printed, so that rule 10 never arises with them
-  in-600 : clearText t .verdict ≡ Accepted → length (sheetText (clearText t .award)) ≤ 600
+    pub sheet-fits : length (sheetText award) ≤ 559
+    sheet-fits = of-records table t accepted (λ (b : BookEntries) (a : Award). length (sheetText a) ≤ 559) (short-sheet table small)
+
+  -- 600 bytes hold the sheet
+  pub in-600 : clearText table t .verdict ≡ Accepted → length (sheetText (clearText table t .award)) ≤ 600
   in-600 e = omega (arith, sheet-fits e)
 
+-- 600 bytes hold whatever is printed, so that rule 10 never arises with them: of a text, by the printed table
+module _ (t : List ℕ) where
   pub prints-fit : length (clearPrints t) ≤ 600
-  prints-fit = printed-fits sheetText 600 t in-600 (omega arith)
+  prints-fit = printed-fits sheetText 600 (clearedByPrinted t) (before-output t printedTable) (in-600 printedTable printed-small t) (omega arith)
 
   pub never-short : (out : List ℕ) → 600 ≤ length out → (place : ℕ) → sheetWritten t (length out) .verdict ≡ Refused OutputLength place → ⊥
-  never-short = never-10 sheetText 600 t in-600
+  never-short = never-10 sheetText 600 (clearedByPrinted t) (before-output t printedTable) (in-600 printedTable printed-small t)
 
-  pub sheet-verdict : (out : List ℕ) → 600 ≤ length out → sheetWritten t (length out) .verdict ≡ clearText t .verdict
-  sheet-verdict = same-verdict sheetText 600 t in-600
+  pub sheet-verdict : (out : List ℕ) → 600 ≤ length out → sheetWritten t (length out) .verdict ≡ clearedByPrinted t .verdict
+  sheet-verdict = same-verdict sheetText 600 (clearedByPrinted t) (before-output t printedTable) (in-600 printedTable printed-small t)

@@ -17,8 +17,9 @@ use Rattle.output.specs.Writing.{writingVerdict, writtenOf}
 use Rattle.award.specs.declared.Award.{Award}
 use Rattle.sheettext.specs.Sheet.{refusalText}
 use Rattle.sheettext.proofs.Sizes.{refusal-size}
-use Rattle.tender.specs.FromText.{clearText, writtenAs, printedAs}
-use Rattle.endtoend.proofs.Places.{BeforeOutput, before-output}
+use Rattle.clearing.specs.declared.Clearing.{Clearing}
+use Rattle.tender.specs.FromText.{writtenAs, printedAs}
+use Rattle.endtoend.proofs.Places.{BeforeOutput}
 
 -- the line of a refusal has at most 18 bytes
 refusal-short : (rule : Rule) (place : ℕ) → place ≤ 4096 → length (refusalText (Refused rule place)) ≤ 18
@@ -27,29 +28,30 @@ refusal-short rule place h =
     let digits = length-below 3 place (omega arith) in
     omega (arith, refusal-size (Refused rule place))
 
-module _ (text : Award → List ℕ) (most : ℕ) (t : List ℕ) (fits : clearText t .verdict ≡ Accepted → length (text (clearText t .award)) ≤ most) where
+module _ (text : Award → List ℕ) (most : ℕ) (cleared : Clearing) (before : BeforeOutput (cleared .verdict))
+    (fits : cleared .verdict ≡ Accepted → length (text (cleared .award)) ≤ most) where
   -- it holds whatever is printed, if it holds the line of a refusal
-  pub printed-fits : 18 ≤ most → length (printedAs text t) ≤ most
+  pub printed-fits : 18 ≤ most → length (printedAs text cleared) ≤ most
   unfolding printedAs
-  printed-fits h = go (clearText t .verdict) refl
+  printed-fits h = go (cleared .verdict) refl
     where
-      go : (v : Verdict) → clearText t .verdict ≡ v → length (printedAs text t) ≤ most
+      go : (v : Verdict) → cleared .verdict ≡ v → length (printedAs text cleared) ≤ most
       go Accepted e = rw e (fits e)
       go (Refused rule place) e =
-          let told : BeforeOutput (Refused rule place) = subst BeforeOutput e (before-output t) in
+          let told : BeforeOutput (Refused rule place) = subst BeforeOutput e before in
           rw e (omega (arith, refusal-short rule place (told .1)))
 
-  -- a text gets the verdict of clearing, and never rule 10
+  -- it gets the verdict of clearing, and never rule 10
   module _ (out : List ℕ) (enough : most ≤ length out) where
-    pub same-verdict : writtenAs text t (length out) .verdict ≡ clearText t .verdict
+    pub same-verdict : writtenAs text cleared (length out) .verdict ≡ cleared .verdict
     unfolding writtenAs writtenOf writingVerdict
-    same-verdict = go (clearText t .verdict) refl
+    same-verdict = go (cleared .verdict) refl
       where
-        go : (v : Verdict) → clearText t .verdict ≡ v → writtenAs text t (length out) .verdict ≡ clearText t .verdict
-        go Accepted e = rw (e, le-leb (length (text (clearText t .award))) (length out) (omega (arith, fits e)))
+        go : (v : Verdict) → cleared .verdict ≡ v → writtenAs text cleared (length out) .verdict ≡ cleared .verdict
+        go Accepted e = rw (e, le-leb (length (text (cleared .award))) (length out) (omega (arith, fits e)))
         go (Refused rule place) e = rw e
 
-    pub never-10 : (place : ℕ) → writtenAs text t (length out) .verdict ≡ Refused OutputLength place → ⊥
+    pub never-10 : (place : ℕ) → writtenAs text cleared (length out) .verdict ≡ Refused OutputLength place → ⊥
     never-10 place e =
-        let told : BeforeOutput (Refused OutputLength place) = subst BeforeOutput (sym same-verdict ∙ e) (before-output t) in
+        let told : BeforeOutput (Refused OutputLength place) = subst BeforeOutput (sym same-verdict ∙ e) before in
         never-other OutputLength (told .0)

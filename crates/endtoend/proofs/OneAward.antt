@@ -9,6 +9,7 @@ use lib.Seq.{getD-take, ext-getD}
 use Rattle.lists.proofs.Slices.{take-most}
 use Rattle.book.specs.Entries.{BookEntries}
 use Rattle.supply.specs.Supply.{suppliesOf}
+use Rattle.sampling.specs.Entries.{TableEntries}
 use Rattle.divisions.specs.Award.{Priced}
 use Rattle.divisions.proofs.Award.{as-many, only-award}
 use Rattle.award.specs.declared.Total.{Total}
@@ -38,7 +39,7 @@ one-total b (Amount c) Nothing (p, is, e) uncovered = absurd (uncovered (p .quan
 one-total b Nothing (Amount d) uncovered (q, is, f) = absurd (uncovered (q .quantities) (is .division))
 one-total b Nothing Nothing x y = refl
 
-module _ (b : BookEntries) (x y : Award) (this : TheAward b x) (that : TheAward b y) where
+module _ (table : TableEntries) (b : BookEntries) (x y : Award) (this : TheAward table b x) (that : TheAward table b y) where
   same-awarded : awarded x ≡ awarded y
   same-awarded = one-award b (awarded x) (awarded y) (this .best) (that .best)
 
@@ -46,9 +47,9 @@ module _ (b : BookEntries) (x y : Award) (this : TheAward b x) (that : TheAward 
   same-row i h =
       let quantity = ap (λ (p : Priced). getD (p .quantities) i 0) same-awarded in
       let total = one-total (bookWithout i b) (rowAt x i .without) (rowAt y i .without) (this .without i h) (that .without i h) in
-      this .rows i h ∙ ap₂ (λ (r : ℕ) (t : Total). rowOf (bidAt b i) r t) quantity total ∙ sym (that .rows i h)
+      this .rows i h ∙ ap₂ (λ (r : ℕ) (t : Total). rowOf table (bidAt b i) r t) quantity total ∙ sym (that .rows i h)
 
-  many : (a : Award) → TheAward b a → length (rowsOf a) ≡ length (b .bids)
+  many : (a : Award) → TheAward table b a → length (rowsOf a) ≡ length (b .bids)
   many a is =
       sym (length-map (rowsOf a) (λ (row : Row). row .quantity .0))
       ∙ as-many (suppliesOf (b .bids)) (awarded a .quantities) (is .best .division .allocation)

@@ -23,6 +23,7 @@ use Rattle.bookreader.specs.declared.BookRead.{BookRead}
 use Rattle.bookreader.specs.Reading.{bookAnswer, readOf}
 use Rattle.roundtrip.proofs.Reading.{Answered, by-length, by-reading, read-answered}
 use Rattle.roundtrip.proofs.Back.{book-accepted}
+use Rattle.sampling.specs.Entries.{TableEntries}
 use Rattle.divisions.specs.Award.{Priced, awardOfBook}
 use Rattle.clearing.specs.declared.Clearing.{Clearing}
 use Rattle.clearing.specs.Clearing.{clearOf}
@@ -55,12 +56,12 @@ book-before b = go (bookVerdict (bookEntries (bookRecord b))) refl
           omega (arith, record-line record-of rule line (few-bids b) e),
         )
 
-clear-before : (b : BookEntries) → bookVerdict b ≡ Accepted → BeforeOutput (clearOf b .verdict)
-clear-before b accepted = go (awardOfBook b) refl
+clear-before : (table : TableEntries) (b : BookEntries) → bookVerdict b ≡ Accepted → BeforeOutput (clearOf table b .verdict)
+clear-before table b accepted = go (awardOfBook b) refl
   where
-    go : (o : Option Priced) → awardOfBook b ≡ o → BeforeOutput (clearOf b .verdict)
-    go none e = subst (λ (c : Clearing). BeforeOutput (c .verdict)) (sym (no-division b accepted e)) (refl, omega arith)
-    go (some award) e = subst (λ (c : Clearing). BeforeOutput (c .verdict)) (sym (division b award accepted e)) tt
+    go : (o : Option Priced) → awardOfBook b ≡ o → BeforeOutput (clearOf table b .verdict)
+    go none e = subst (λ (c : Clearing). BeforeOutput (c .verdict)) (sym (no-division table b accepted e)) (refl, omega arith)
+    go (some award) e = subst (λ (c : Clearing). BeforeOutput (c .verdict)) (sym (division table b award accepted e)) tt
 
 module _ (t : List ℕ) where
   read-before : BeforeOutput (readOf t .verdict)
@@ -75,10 +76,10 @@ module _ (t : List ℕ) where
       go (by-reading h (of-shape b it) e) = told _ e (book-before b)
       go (by-reading h (not-of-shape n no-book it) e) = told _ e (refl, omega (arith, it .within))
 
-  pub before-output : BeforeOutput (clearText t .verdict)
+  pub before-output : (table : TableEntries) → BeforeOutput (clearText table t .verdict)
   unfolding clearText
-  before-output = go (readOf t .verdict) refl
+  before-output table = go (readOf t .verdict) refl
     where
-      go : (v : Verdict) → readOf t .verdict ≡ v → BeforeOutput (clearText t .verdict)
-      go Accepted e = rw e (clear-before (bookOf t) (book-accepted t e))
+      go : (v : Verdict) → readOf t .verdict ≡ v → BeforeOutput (clearText table t .verdict)
+      go Accepted e = rw e (clear-before table (bookOf t) (book-accepted t e))
       go (Refused rule place) e = let small : BeforeOutput (Refused rule place) = rw e at read-before in rw e small

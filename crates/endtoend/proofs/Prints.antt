@@ -4,6 +4,7 @@ use mathlib.Core.Path.{_≡_, refl}
 use Prim.Native.Nat.{ℕ}
 use Rattle.refusal.specs.declared.Verdict.{Verdict}
 use Rattle.refusal.specs.declared.Verdict.the-variants.{Accepted, Refused}
+use Rattle.sampling.specs.Entries.{TableEntries}
 use Rattle.award.specs.declared.Award.{Award}
 use Rattle.bookanswers.specs.BookAnswers.{bookOf}
 use Rattle.tender.specs.FromText.{clearText, printedAs}
@@ -11,10 +12,10 @@ use Rattle.endtoend.specs.Outcome.{PrintOutcome, its-text, its-refusal}
 use Rattle.endtoend.proofs.ClearedText.{accepted-text, was-read, its-award}
 use Rattle.endtoend.proofs.Whole.{nothing-written}
 
-pub prints : (text : Award → List ℕ) (t : List ℕ) → PrintOutcome text t
+pub prints : (text : Award → List ℕ) (table : TableEntries) (t : List ℕ) → PrintOutcome text table t (clearText table t)
 unfolding printedAs
-prints text t = go (clearText t .verdict) refl
+prints text table t = go (clearText table t .verdict) refl
   where
-    go : (v : Verdict) → clearText t .verdict ≡ v → PrintOutcome text t
-    go Accepted e = its-text (bookOf t) (accepted-text t (was-read t e)) (clearText t .award) (its-award t e) (rw e)
-    go (Refused rule place) e = its-refusal rule place (λ out. nothing-written text t out rule place e) (rw e)
+    go : (v : Verdict) → clearText table t .verdict ≡ v → PrintOutcome text table t (clearText table t)
+    go Accepted e = its-text (bookOf t) (accepted-text t (was-read table t e)) (clearText table t .award) (its-award table t e) (rw e)
+    go (Refused rule place) e = its-refusal rule place (λ out. nothing-written text (clearText table t) out rule place e) (rw e)

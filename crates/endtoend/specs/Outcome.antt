@@ -1,5 +1,6 @@
--- What a text t gets, lent an output with the bytes `out`, where `text` is any way to write an award as a text (a sheet, a page): one of six
--- outcomes, in the order of the refusals. Each says what holds of t, and then the answer and the bytes of the output.
+-- What a text t gets, sampled by a table and lent an output with the bytes `out`, where `text` is any way to write an award as a text (a sheet, a
+-- page): one of six outcomes, in the order of the refusals. Each says what holds of t, and then the answer and the bytes of the output;
+-- `cleared` is what clearing answered for t.
 use Prim.Native.Nat.{ℕ, _≤_, _<_}
 use mathlib.Core.List.{List}
 use mathlib.Core.Path.{_≡_}
@@ -16,8 +17,10 @@ use Rattle.booktext.specs.WellFormed.{WellFormedBook}
 use Rattle.booktext.specs.Record.{bookRecord}
 use Rattle.printer.specs.Written.{written}
 use Rattle.roundtrip.specs.NotOfShape.{NotOfShape}
+use Rattle.sampling.specs.Entries.{TableEntries}
 use Rattle.award.specs.declared.Award.{Award}
 use Rattle.sheettext.specs.Sheet.{refusalText}
+use Rattle.clearing.specs.declared.Clearing.{Clearing}
 use Rattle.awardtheorems.specs.OfBook.{DivisionOf}
 use Rattle.tender.specs.FromText.{writtenAs, outputAs, printedAs}
 use Rattle.endtoend.specs.TheAward.{TheAward}
@@ -43,32 +46,40 @@ CoveredText t b = AcceptedText t b × ((rs : List ℕ) × DivisionOf b rs)
 abbrev pub UncoveredText : List ℕ → BookEntries → Type 0
 UncoveredText t b = AcceptedText t b × ((rs : List ℕ) → DivisionOf b rs → ⊥)
 
-module _ (text : Award → List ℕ) (t out : List ℕ) where
+-- what was cleared, written as a text
+module _ (text : Award → List ℕ) (cleared : Clearing) (out : List ℕ) where
   -- refused: no byte is written, and the output is unchanged
   abbrev pub NothingWritten : Rule → ℕ → Type 0
-  NothingWritten rule place = (writtenAs text t (length out) ≡ record { verdict = Refused rule place; bytes = 0 }) × (outputAs text t out ≡ out)
+  NothingWritten rule place =
+      (writtenAs text cleared (length out) ≡ record { verdict = Refused rule place; bytes = 0 }) × (outputAs text cleared out ≡ out)
 
   -- the text of the award, byte for byte, and what was past it
   abbrev pub WholeText : Award → Type 0
-  WholeText a = (writtenAs text t (length out) ≡ record { verdict = Accepted; bytes = length (text a) }) × (outputAs text t out ≡ written out 0 (text a))
+  WholeText a =
+      (writtenAs text cleared (length out) ≡ record { verdict = Accepted; bytes = length (text a) })
+      × (outputAs text cleared out ≡ written out 0 (text a))
 
-  pub data Outcome : Type 0 where
-    -- 1: it is longer than 4,096 bytes
-    too-long : 4096 < length t → NothingWritten TextLength 4096 → Outcome
-    -- 2: no book has this text
-    not-of-shape : (place : ℕ) → NotOfShape t place → NothingWritten Shape place → Outcome
-    -- 3 to 8: its book breaks a rule
-    broken : (b : BookEntries) → TextSays t b → (rule : Rule) (line : ℕ) → textVerdict b ≡ Refused rule line → NothingWritten rule line → Outcome
-    -- 9: its book has no division
-    not-covered : (b : BookEntries) → AcceptedText t b → ((rs : List ℕ) → DivisionOf b rs → ⊥) → NothingWritten NotCovered 0 → Outcome
-    -- 10: the award's text is longer than the output
-    output-short : (b : BookEntries) → AcceptedText t b → (a : Award) → TheAward b a → length out < length (text a)
-        → NothingWritten OutputLength (length (text a)) → Outcome
-    -- the award's text
-    award-written : (b : BookEntries) → AcceptedText t b → (a : Award) → TheAward b a → length (text a) ≤ length out → WholeText a → Outcome
+pub data Outcome (text : Award → List ℕ) (table : TableEntries) (t : List ℕ) (cleared : Clearing) (out : List ℕ) : Type 0 where
+  -- 1: it is longer than 4,096 bytes
+  too-long : 4096 < length t → NothingWritten text cleared out TextLength 4096 → Outcome text table t cleared out
+  -- 2: no book has this text
+  not-of-shape : (place : ℕ) → NotOfShape t place → NothingWritten text cleared out Shape place → Outcome text table t cleared out
+  -- 3 to 8: its book breaks a rule
+  broken : (b : BookEntries) → TextSays t b → (rule : Rule) (line : ℕ) → textVerdict b ≡ Refused rule line → NothingWritten text cleared out rule line
+      → Outcome text table t cleared out
+  -- 9: its book has no division
+  not-covered : (b : BookEntries) → AcceptedText t b → ((rs : List ℕ) → DivisionOf b rs → ⊥) → NothingWritten text cleared out NotCovered 0
+      → Outcome text table t cleared out
+  -- 10: the award's text is longer than the output
+  output-short : (b : BookEntries) → AcceptedText t b → (a : Award) → TheAward table b a → length out < length (text a)
+      → NothingWritten text cleared out OutputLength (length (text a)) → Outcome text table t cleared out
+  -- the award's text
+  award-written : (b : BookEntries) → AcceptedText t b → (a : Award) → TheAward table b a → length (text a) ≤ length out
+      → WholeText text cleared out a → Outcome text table t cleared out
 
 -- What a program prints for t: the text of the award, or the line of the refusal that t gets in every output.
-pub data PrintOutcome (text : Award → List ℕ) (t : List ℕ) : Type 0 where
-  its-text : (b : BookEntries) → AcceptedText t b → (a : Award) → TheAward b a → printedAs text t ≡ text a → PrintOutcome text t
-  its-refusal : (rule : Rule) (place : ℕ) → ((out : List ℕ) → NothingWritten text t out rule place) → printedAs text t ≡ refusalText (Refused rule place)
-      → PrintOutcome text t
+pub data PrintOutcome (text : Award → List ℕ) (table : TableEntries) (t : List ℕ) (cleared : Clearing) : Type 0 where
+  its-text : (b : BookEntries) → AcceptedText t b → (a : Award) → TheAward table b a → printedAs text cleared ≡ text a
+      → PrintOutcome text table t cleared
+  its-refusal : (rule : Rule) (place : ℕ) → ((out : List ℕ) → NothingWritten text cleared out rule place)
+      → printedAs text cleared ≡ refusalText (Refused rule place) → PrintOutcome text table t cleared

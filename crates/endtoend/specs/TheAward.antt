@@ -1,10 +1,11 @@
--- Demand 3's words for the award of a book, as its record shows it.
+-- Demand 3's words for the award of a book, as its record shows it, sampled by a table.
 use Prim.Native.Nat.{ℕ, _≤_, _<_}
 use mathlib.Core.List.{List, []}
 use mathlib.Core.Path.{_≡_}
 use lib.ListN.{getD}
 use Rattle.book.specs.Entries.{BidEntries, BookEntries}
 use Rattle.supply.specs.Supply.{suppliesOf}
+use Rattle.sampling.specs.Entries.{TableEntries}
 use Rattle.divisions.specs.Award.{Priced}
 use Rattle.divisions.specs.IsAward.{insideCount}
 use Rattle.award.specs.declared.Total.{Total}
@@ -24,14 +25,14 @@ TotalOf b Nothing = (rs : List ℕ) → DivisionOf b rs → ⊥
 abbrev pub bidAt : BookEntries → ℕ → BidEntries
 bidAt b i = getD (b .bids) i (record { bidder = 0; carriage = 0; count = 0; segments = [] })
 
-pub record TheAward (b : BookEntries) (a : Award) : Type 0 where
+pub record TheAward (table : TableEntries) (b : BookEntries) (a : Award) : Type 0 where
   pub demand : a .demand .0 ≡ b .demand
   pub count : a .count ≡ b .count
   -- one of the divisions; every other costs more, or costs the same and gives less to the first bidder at whom the two differ
   pub best : IsAwardOf b (awarded a)
   -- at most one bidder stands strictly inside its segment
   pub one-inside : insideCount (suppliesOf (b .bids)) (awarded a .quantities) ≤ 1
-  -- each row: bidder, segment, quantity, price and sample
-  pub rows : (i : ℕ) → i < b .count → rowAt a i ≡ rowOf (bidAt b i) (getD (awarded a .quantities) i 0) (rowAt a i .without)
+  -- each row: bidder, segment, quantity, price and sample by the table
+  pub rows : (i : ℕ) → i < b .count → rowAt a i ≡ rowOf table (bidAt b i) (getD (awarded a .quantities) i 0) (rowAt a i .without)
   -- the total without a bidder is that of the award so fixed for the other bids
   pub without : (i : ℕ) → i < b .count → TotalOf (bookWithout i b) (rowAt a i .without)

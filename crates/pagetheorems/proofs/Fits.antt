@@ -13,6 +13,7 @@ use Rattle.refusal.specs.declared.Verdict.the-variants.{Accepted}
 use Rattle.book.specs.declared.Book.{Book}
 use Rattle.book.specs.Entries.{bookEntries}
 use Rattle.supply.proofs.Accepted.{mostCents}
+use Rattle.sampling.specs.Entries.{TableEntries}
 use Rattle.award.specs.declared.Total.{Total}
 use Rattle.award.specs.declared.Total.the-variants.{Amount, Nothing}
 use Rattle.award.specs.declared.Row.{Row}
@@ -24,7 +25,7 @@ use Rattle.pagetext.proofs.ReadBack.{RowFromZero, AwardFromZero}
 use Rattle.clearing.specs.Clearing.{clearOf}
 use Rattle.awardtheorems.specs.Awarded.{rowsOf}
 use Rattle.awardtheorems.proofs.Costs.{UpTo, mostTotal}
-use Rattle.awardtheorems.proofs.Amounts.{TotalUpTo, RowUpTo, demand-up-to, total-from-zero}
+use Rattle.awardtheorems.proofs.Amounts.{SmallSamples, TotalUpTo, RowUpTo, demand-up-to, total-from-zero}
 use Rattle.endtoend.proofs.Fits.{every-row, each-up-to}
 
 -- an amount below 10 to the power 17 has at most 18 bytes
@@ -52,21 +53,22 @@ row-fits row h =
 row-from-zero : (row : Row) → RowUpTo row → RowFromZero row
 row-from-zero row h = record { price = h .price .not-negative; without = without-from-zero (row .without) (h .without) }
 
-module _ (book : Book) (held : length (book .bids) ≡ 8) (accepted : clearOf (bookEntries book) .verdict ≡ Accepted) where
+module _ (table : TableEntries) (small : SmallSamples table) (book : Book) (held : length (book .bids) ≡ 8)
+    (accepted : clearOf table (bookEntries book) .verdict ≡ Accepted) where
   abbrev a : Award
-  a = clearOf (bookEntries book) .award
+  a = clearOf table (bookEntries book) .award
 
   up-to : All RowUpTo (rowsOf a)
-  up-to = every-row RowUpTo a (each-up-to book held accepted)
+  up-to = every-row RowUpTo a (each-up-to table small book held accepted)
 
   pub page-fits : PageFits a
   page-fits =
-      let demand = length-below 19 (a .demand .0) (omega (arith, demand-up-to book held accepted)) in
-      let total = amount-short mostTotal (a .total .0) (total-from-zero book held accepted) (omega arith) in
+      let demand = length-below 19 (a .demand .0) (omega (arith, demand-up-to table book held accepted)) in
+      let total = amount-short mostTotal (a .total .0) (total-from-zero table book held accepted) (omega arith) in
       record { first = (demand, (omega arith, tt)); rows = all-from RowUpTo RowFits row-fits (rowsOf a) up-to }
 
   pub none-negative : AwardFromZero a
   none-negative = record {
-    total = total-from-zero book held accepted .not-negative;
+    total = total-from-zero table book held accepted .not-negative;
     rows = all-from RowUpTo RowFromZero row-from-zero (rowsOf a) up-to;
   }

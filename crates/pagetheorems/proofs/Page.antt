@@ -11,6 +11,9 @@ use Rattle.book.specs.declared.Book.{Book}
 use Rattle.book.specs.Entries.{BookEntries, bookEntries}
 use Rattle.output.specs.Writing.{writtenOf}
 use Rattle.output.proofs.Answers.{accepted-before, text-written}
+use Rattle.sampling.specs.Entries.{TableEntries}
+use Rattle.sampling.specs.Sampling.{printedTable}
+use Rattle.sampling.proofs.Bands.{printed-small}
 use Rattle.award.specs.declared.Award.{Award}
 use Rattle.sheettext.specs.Sheet.{sheetText}
 use Rattle.pagetext.specs.Page.{pageText}
@@ -20,58 +23,69 @@ use Rattle.pagetext.specs.ThePage.{ThePage}
 use Rattle.pagetext.proofs.Page.{lines-length, page-lines}
 use Rattle.pagetext.proofs.ReadBack.{award-back}
 use Rattle.clearing.specs.Clearing.{clearOf}
-use Rattle.tender.specs.FromText.{clearText, writtenAs, outputAs, sheetWritten, pageWritten, pageOutput, pagePrints}
+use Rattle.awardtheorems.proofs.Amounts.{SmallSamples}
+use Rattle.tender.specs.FromText.{clearText, writtenAs, outputAs, clearedByPrinted, sheetWritten, pageWritten, pageOutput, pagePrints}
 use Rattle.endtoend.proofs.ClearedText.{of-records}
 use Rattle.endtoend.proofs.Fits.{few, sheet-verdict}
+use Rattle.endtoend.proofs.Places.{before-output}
 use Rattle.endtoend.proofs.LongEnough.{printed-fits, same-verdict, never-10}
 use Rattle.pagetheorems.proofs.Fits.{page-fits, none-negative}
 use Rattle.pagetheorems.proofs.Rows.{complete}
 
--- of a cleared record
-pub the-page : (book : Book) → length (book .bids) ≡ 8 → clearOf (bookEntries book) .verdict ≡ Accepted → ThePage (clearOf (bookEntries book) .award)
-the-page book held accepted =
-    let a = clearOf (bookEntries book) .award in
-    let fits = page-fits book held accepted in
-    let whole = complete book held accepted in
-    let lines = subst (λ (n : ℕ). PageLines (n + 1) (pageText a)) (whole .many) (page-lines a fits) in
-    record {
-      fits = fits;
-      lines = lines;
-      short = omega (arith, lines-length (a .count + 1) (pageText a) lines, few book held accepted);
-      read = award-back a fits (none-negative book held accepted) whole;
-    }
+-- by a table without large samples
+module _ (table : TableEntries) (small : SmallSamples table) where
+  -- of a cleared record
+  pub the-page : (book : Book) → length (book .bids) ≡ 8 → clearOf table (bookEntries book) .verdict ≡ Accepted → ThePage (clearOf table (bookEntries book) .award)
+  the-page book held accepted =
+      let a = clearOf table (bookEntries book) .award in
+      let fits = page-fits table small book held accepted in
+      let whole = complete table book held accepted in
+      let lines = subst (λ (n : ℕ). PageLines (n + 1) (pageText a)) (whole .many) (page-lines a fits) in
+      record {
+        fits = fits;
+        lines = lines;
+        short = omega (arith, lines-length (a .count + 1) (pageText a) lines, few table small book held accepted);
+        read = award-back a fits (none-negative table small book held accepted) whole;
+      }
 
--- of a cleared text
-module _ (t : List ℕ) (accepted : clearText t .verdict ≡ Accepted) where
-  abbrev a : Award
-  a = clearText t .award
+  -- of a cleared text
+  module _ (t : List ℕ) (accepted : clearText table t .verdict ≡ Accepted) where
+    abbrev a : Award
+    a = clearText table t .award
 
-  pub text-page : ThePage a
-  text-page = of-records t accepted (λ (b : BookEntries) (x : Award). ThePage x) the-page
+    pub text-page : ThePage a
+    text-page = of-records table t accepted (λ (b : BookEntries) (x : Award). ThePage x) the-page
 
-  pub page-length : length (pageText a) ≡ 65 * (a .count + 1)
-  page-length = lines-length (a .count + 1) (pageText a) (text-page .lines)
+    pub page-length : length (pageText a) ≡ 65 * (a .count + 1)
+    page-length = lines-length (a .count + 1) (pageText a) (text-page .lines)
 
-  -- what is read is what the sheet shows
-  pub columns-give-sheet : sheetText (awardIn (pageText a)) ≡ sheetText a
-  columns-give-sheet = ap sheetText (text-page .read)
+    -- what is read is what the sheet shows
+    pub columns-give-sheet : sheetText (awardIn (pageText a)) ≡ sheetText a
+    columns-give-sheet = ap sheetText (text-page .read)
 
--- 585 bytes hold whatever is printed, and with them no page is refused by 10
-pub page-prints-fit : (t : List ℕ) → length (pagePrints t) ≤ 585
-page-prints-fit t = printed-fits pageText 585 t (λ e. text-page t e .short) (omega arith)
+-- by the printed table: 585 bytes hold whatever is printed, and with them no page is refused by 10
+module _ (t : List ℕ) where
+  pub page-prints-fit : length (pagePrints t) ≤ 585
+  page-prints-fit =
+      printed-fits pageText 585 (clearedByPrinted t) (before-output t printedTable) (λ e. text-page printedTable printed-small t e .short) (omega arith)
 
-pub page-never-short : (t out : List ℕ) → 585 ≤ length out → (place : ℕ) → pageWritten t (length out) .verdict ≡ Refused OutputLength place → ⊥
-page-never-short t out enough = never-10 pageText 585 t (λ e. text-page t e .short) out enough
+  module _ (out : List ℕ) (enough : 585 ≤ length out) where
+    pub page-never-short : (place : ℕ) → pageWritten t (length out) .verdict ≡ Refused OutputLength place → ⊥
+    page-never-short =
+        never-10 pageText 585 (clearedByPrinted t) (before-output t printedTable) (λ e. text-page printedTable printed-small t e .short) out enough
 
--- a page is refused exactly where a sheet is, each in an output that is long enough
-pub as-sheet : (t out other : List ℕ) → 585 ≤ length out → 600 ≤ length other
-    → pageWritten t (length out) .verdict ≡ sheetWritten t (length other) .verdict
-as-sheet t out other h k = same-verdict pageText 585 t (λ e. text-page t e .short) out h ∙ sym (sheet-verdict t other k)
+    -- a page is refused exactly where a sheet is, each in an output that is long enough
+    pub as-sheet : (other : List ℕ) → 600 ≤ length other → pageWritten t (length out) .verdict ≡ sheetWritten t (length other) .verdict
+    as-sheet other k =
+        same-verdict pageText 585 (clearedByPrinted t) (before-output t printedTable) (λ e. text-page printedTable printed-small t e .short) out enough
+        ∙ sym (sheet-verdict t other k)
 
 -- the bytes that are written, as many as are answered, give the award again
 module _ (t out : List ℕ) (accepted : pageWritten t (length out) .verdict ≡ Accepted) where
-  pub written-read : awardIn (take (pageWritten t (length out) .bytes) (pageOutput t out)) ≡ clearText t .award
+  pub written-read : awardIn (take (pageWritten t (length out) .bytes) (pageOutput t out)) ≡ clearedByPrinted t .award
   unfolding writtenAs outputAs writtenOf
   written-read =
-      let page = pageText (clearText t .award) in
-      ap awardIn (text-written (clearText t .verdict) page out accepted) ∙ text-page t (accepted-before (clearText t .verdict) page out accepted) .read
+      let c = clearedByPrinted t in
+      let page = pageText (c .award) in
+      ap awardIn (text-written (c .verdict) page out accepted)
+      ∙ text-page printedTable printed-small t (accepted-before (c .verdict) page out accepted) .read

@@ -11,6 +11,7 @@ use Rattle.refusal.specs.declared.Verdict.the-variants.{Accepted}
 use Rattle.book.specs.declared.Book.{Book}
 use Rattle.book.specs.Entries.{BookEntries, bookEntries}
 use Rattle.supply.specs.Supply.{suppliesOf}
+use Rattle.sampling.specs.Entries.{TableEntries}
 use Rattle.divisions.proofs.Award.{as-many}
 use Rattle.award.specs.declared.Row.{Row}
 use Rattle.award.specs.Award.{noRow}
@@ -22,32 +23,32 @@ use Rattle.awardtheorems.proofs.Answers.{Cleared, cleared}
 use Rattle.awardtheorems.proofs.Cleared.{award-of-book}
 use Rattle.awardtheorems.proofs.Counts.{few-bids, bids-counted}
 
-module _ (book : Book) (held : length (book .bids) ≡ 8) (accepted : clearOf (bookEntries book) .verdict ≡ Accepted) where
+module _ (table : TableEntries) (book : Book) (held : length (book .bids) ≡ 8) (accepted : clearOf table (bookEntries book) .verdict ≡ Accepted) where
   abbrev b : BookEntries
   b = bookEntries book
 
-  c : Cleared b
-  c = cleared b accepted
+  c : Cleared table b
+  c = cleared table b accepted
 
   few : b .count ≤ 8
   few = few-bids b (c .accepted)
 
   -- a row for each bid
   abbrev listed : List Row
-  listed = rowsFrom b 0 (b .bids) (c .award .quantities)
+  listed = rowsFrom table b 0 (b .bids) (c .award .quantities)
 
   as-listed : length listed ≡ b .count
   as-listed =
       let sold = award-of-book b (c .award) (c .is-award) .division .allocation in
       let many = as-many (suppliesOf (b .bids)) (c .award .quantities) sold ∙ length-map (b .bids) _ in
-      length-rows b 0 (b .bids) (c .award .quantities) (sym many) ∙ bids-counted book held (c .accepted)
+      length-rows table b 0 (b .bids) (c .award .quantities) (sym many) ∙ bids-counted book held (c .accepted)
 
-  made-complete : Complete (awardRecord b (c .award))
+  made-complete : Complete (awardRecord table b (c .award))
   unfolding awardRecord
   made-complete = record {
     many = length-take-le (b .count) (padded 8 noRow listed) (omega (arith, few, length-padded 8 noRow listed));
     past = ap (padded 8 noRow) (sym (take-count 8 (b .count) noRow listed (sym as-listed) few));
   }
 
-  pub complete : Complete (clearOf b .award)
+  pub complete : Complete (clearOf table b .award)
   complete = subst (λ (x : Clearing). Complete (x .award)) (sym (c .answer)) made-complete

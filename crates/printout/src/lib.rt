@@ -6,17 +6,17 @@ ghost use lib.ListN.{length, take};
 ghost use Rattle.refusal.specs.declared.Verdict.the-variants.{Accepted};
 ghost use Rattle.output.specs.Writing.{writtenOf, outputAfter};
 ghost use Rattle.awardwriter.specs.Layout.{layoutText};
-ghost use Rattle.tender.specs.FromText.{printedAs};
+ghost use Rattle.tender.specs.FromText.{printedAs, clearedByPrinted};
 use awardwriter::Layout;
+use clearing::Clearing;
 use output::TextWritten;
 use refusal::Verdict;
 
-// The award in a layout, or the line of the refusal.
-fn write(layout: Layout, text: &[u8], out: &mut [u8]) -> TextWritten
-    ensures { λ r. ⌜ r ≡ writtenOf Accepted (printedAs (layoutText layout) (now (text .entry))) (length (now (out .entry))) ⌝ }
-    ensures { λ r. ⌜ now (out .exit) ≡ outputAfter Accepted (printedAs (layoutText layout) (now (text .entry))) (now (out .entry)) ⌝ }
+// What was cleared, in a layout, or the line of the refusal.
+fn write(layout: Layout, cleared: Clearing, out: &mut [u8]) -> TextWritten
+    ensures { λ r. ⌜ r ≡ writtenOf Accepted (printedAs (layoutText layout) cleared) (length (now (out .entry))) ⌝ }
+    ensures { λ r. ⌜ now (out .exit) ≡ outputAfter Accepted (printedAs (layoutText layout) cleared) (now (out .entry)) ⌝ }
 {
-    let cleared = tender::clear(text);
     let verdict = cleared.verdict;
     if let Verdict::Refused(rule, place) = verdict {
         return sheet::write_refusal(rule, place, out);
@@ -28,9 +28,10 @@ fn write(layout: Layout, text: &[u8], out: &mut [u8]) -> TextWritten
 // Puts what is to be printed for a text at the beginning of the output, and answers how many bytes it has: 600 bytes hold it.
 pub fn print(layout: Layout, text: &[u8], out: &mut [u8]) -> usize
     requires { ⌜ length (now out) ≡ 600 ⌝ }
-    ensures { λ r. ⌜ take r (now (out .exit)) ≡ printedAs (layoutText layout) (now (text .entry)) ⌝ }
+    ensures { λ r. ⌜ take r (now (out .exit)) ≡ printedAs (layoutText layout) (clearedByPrinted (now (text .entry))) ⌝ }
     ensures { λ r. ⌜ r ≤ length (now (out .exit)) ⌝ }
 {
-    let written = write(layout, text, out);
+    let cleared = tender::clear(text);
+    let written = write(layout, cleared, out);
     written.bytes as usize
 }

@@ -3,7 +3,7 @@
 use Prim.Native.Nat.{ℕ, zero, suc, _≤_, _<_, suc-le-suc}
 use native.Mathlib.Nat.{le-of-suc-le-suc, not-suc-le-zero}
 use native.Mathlib.Omega.{arith}
-use mathlib.Core.Bool.{Bool, true, false, _&&_, and-false}
+use mathlib.Core.Bool.{Bool, true, false, cond, _&&_, and-false}
 use mathlib.Core.List.{List, [], _∷_}
 use mathlib.Core.Path.{_≡_, refl, ap}
 use borrow.Author.Tests.{ltb-true, lt-ltb, le-leb, lt-leb, leb-true, leb-false}
@@ -12,7 +12,7 @@ use lib.ListN.{length, getD}
 use Rattle.lists.specs.Every.{every}
 use Rattle.lists.proofs.Tests.{both-left, both-right}
 use Rattle.sampling.specs.declared.Band.{Band}
-use Rattle.sampling.specs.Sampling.{band, printedTable, sampleAbove, sampleOf}
+use Rattle.sampling.specs.Sampling.{band, printedBands, printedTable, sampleAbove, sampleOf}
 use Rattle.sampling.proofs.Scan.{zero-samples}
 
 -- the highest quantities rise strictly
@@ -104,25 +104,43 @@ beyond before most q (b ∷ bs) e h =
 
 -- The rule.
 
-pub printed-rises : rising 0 printedTable ≡ true
-unfolding printedTable
+pub printed-rises : rising 0 printedBands ≡ true
+unfolding printedBands
 printed-rises = refl
 
-pub every-quantity-lies : (q : ℕ) → 1 ≤ q → q ≤ 1000000 → (k : ℕ) × LiesIn 0 printedTable k q
-unfolding printedTable
-every-quantity-lies q low high = reached 0 printedTable 15 q (lit≤ tt) low high
+pub every-quantity-lies : (q : ℕ) → 1 ≤ q → q ≤ 1000000 → (k : ℕ) × LiesIn 0 printedBands k q
+unfolding printedBands
+every-quantity-lies q low high = reached 0 printedBands 15 q (lit≤ tt) low high
 
-pub no-second-band : (j k q : ℕ) → LiesIn 0 printedTable j q → LiesIn 0 printedTable k q → j ≡ k
-no-second-band j k q l m = one-band 0 printedTable j k q printed-rises l m
+pub no-second-band : (j k q : ℕ) → LiesIn 0 printedBands j q → LiesIn 0 printedBands k q → j ≡ k
+no-second-band j k q l m = one-band 0 printedBands j k q printed-rises l m
 
-pub sample-in-band : (k q : ℕ) → LiesIn 0 printedTable k q → sampleOf printedTable q ≡ bandAt printedTable k .sample
+pub sample-in-band : (k q : ℕ) → LiesIn 0 printedBands k q → sampleOf printedTable q ≡ bandAt printedBands k .sample
 unfolding sampleOf
-sample-in-band k q l = in-band 0 printedTable k q printed-rises l
+sample-in-band k q l = in-band 0 printedBands k q printed-rises l
 
 pub zero-samples-zero : sampleOf printedTable 0 ≡ 0
 unfolding sampleOf
-zero-samples-zero = zero-samples 0 printedTable
+zero-samples-zero = zero-samples 0 printedBands
 
 pub beyond-samples-zero : (q : ℕ) → 1000000 < q → sampleOf printedTable q ≡ 0
-unfolding sampleOf printedTable every
-beyond-samples-zero q h = beyond 0 1000000 q printedTable refl h
+unfolding sampleOf printedBands every
+beyond-samples-zero q h = beyond 0 1000000 q printedBands refl h
+
+-- and no sample of it is more than 99,999
+
+either-small : (t : Bool) (m n most : ℕ) → m ≤ most → n ≤ most → cond t m n ≤ most
+either-small true m n most h k = h
+either-small false m n most h k = k
+
+sample-small : (most before : ℕ) (bands : List Band) (q : ℕ) → every (λ b. leb (b .sample) most) bands ≡ true → sampleAbove before bands q ≤ most
+unfolding sampleAbove every
+sample-small most before [] q e = omega arith
+sample-small most before (b ∷ bs) q e =
+    let rest = every (λ (b : Band). leb (b .sample) most) bs in
+    either-small (ltb before q && leb q (b .highest)) (b .sample) (sampleAbove (b .highest) bs q) most
+    (leb-true (b .sample) most (both-left (leb (b .sample) most) rest e)) (sample-small most (b .highest) bs q (both-right (leb (b .sample) most) rest e))
+
+pub printed-small : (q : ℕ) → sampleOf printedTable q ≤ 99999
+unfolding sampleOf printedBands every
+printed-small q = sample-small 99999 0 printedBands q refl

@@ -1,8 +1,10 @@
-// How many blanks of an awarded quantity are sampled.
+// How many blanks of an awarded quantity are sampled: the sampling table as a record, and the sample of a quantity.
 ghost use mathlib.Core.Path.{_≡_};
+ghost use Prim.Native.Nat.{min};
+ghost use Rattle.sampling.specs.Entries.{tableEntries};
 ghost use Rattle.sampling.specs.Sampling.{printedTable, sampleOf};
 
-mod table;
+mod printed_bands;
 
 use money::Blanks;
 
@@ -12,28 +14,49 @@ pub struct Band {
     pub sample: u64,
 }
 
-// The sample by the printed table. Quantity 0 samples 0, and so does one above 1,000,000, which
-// lies in no band and which no award has.
-pub fn sample(quantity: Blanks) -> Blanks
-    ensures { λ r. ⌜ r .0 ≡ sampleOf printedTable (quantity .0) ⌝ }
-{
-    Blanks(sample_in(table::PRINTED, quantity.0))
+// A sampling table: the first `count` of the bands; the others are ignored.
+pub struct Table {
+    pub count: usize,
+    pub bands: [Band; 16],
 }
 
-// The sample of the band in which q lies, or 0 where it lies in none.
-fn sample_in(bands: [Band; 16], q: u64) -> u64
-    ensures { λ r. ⌜ r ≡ sampleOf bands q ⌝ }
+// The printed table.
+pub fn printed() -> Table
+    ensures { λ r. ⌜ tableEntries r ≡ printedTable ⌝ }
 {
-    if q == 0 {
-        return 0;
+    Table {
+        count: 16,
+        bands: printed_bands::PRINTED,
     }
+}
+
+// How many of the counted bands are in a record, which holds sixteen.
+pub fn held(count: usize) -> usize
+    ensures { λ r. ⌜ r ≡ min count 16 ⌝ }
+{
+    if 16 < count {
+        return 16;
+    }
+    count
+}
+
+// The sample of a quantity by a table: that of the band in which it lies. Quantity 0 samples 0, and so does one that lies in no band, which
+// no award has.
+pub fn sample(table: Table, quantity: Blanks) -> Blanks
+    ensures { λ r. ⌜ r .0 ≡ sampleOf (tableEntries table) (quantity .0) ⌝ }
+{
+    let q = quantity.0;
+    if q == 0 {
+        return Blanks(0);
+    }
+    let n = held(table.count);
     let mut i: usize = 0;
-    while i < 16 {
-        let band = bands[i];
+    while i < n {
+        let band = table.bands[i];
         if q <= band.highest {
-            return band.sample;
+            return Blanks(band.sample);
         }
         i += 1;
     }
-    0
+    Blanks(0)
 }

@@ -4,6 +4,8 @@ use mathlib.Core.List.{List}
 use Rattle.refusal.specs.Checks.{whenAccepted}
 use Rattle.output.specs.declared.TextWritten.{TextWritten}
 use Rattle.output.specs.Writing.{writtenOf, outputAfter}
+use Rattle.sampling.specs.Entries.{TableEntries}
+use Rattle.sampling.specs.Sampling.{printedTable}
 use Rattle.award.specs.declared.Award.{Award}
 use Rattle.sheettext.specs.Sheet.{sheetText, refusalText}
 use Rattle.pagetext.specs.Page.{pageText}
@@ -11,37 +13,41 @@ use Rattle.clearing.specs.declared.Clearing.{Clearing}
 use Rattle.clearing.specs.Clearing.{clearOf, refusedClearing}
 use Rattle.bookanswers.specs.BookAnswers.{answerOf}
 
-unfoldable pub clearText : List ℕ → Clearing
-clearText t = answerOf clearOf refusedClearing t
+-- the award of the book, sampled by a table: refused by 1, 2, 3 to 8, then 9
+unfoldable pub clearText : TableEntries → List ℕ → Clearing
+clearText table t = answerOf (clearOf table) refusedClearing t
 
--- ---- the award written as a text, of which `text` says what it is: refused by 1, 2, 3 to 8, then 9, then 10
+-- ---- what was cleared, written as a text, of which `text` says what it is: refused as it was cleared, then by 10
 
-unfoldable pub writtenAs : (Award → List ℕ) → List ℕ → ℕ → TextWritten
-writtenAs text t size = writtenOf (clearText t .verdict) (text (clearText t .award)) size
+unfoldable pub writtenAs : (Award → List ℕ) → Clearing → ℕ → TextWritten
+writtenAs text cleared size = writtenOf (cleared .verdict) (text (cleared .award)) size
 
-unfoldable pub outputAs : (Award → List ℕ) → List ℕ → List ℕ → List ℕ
-outputAs text t out = outputAfter (clearText t .verdict) (text (clearText t .award)) out
+unfoldable pub outputAs : (Award → List ℕ) → Clearing → List ℕ → List ℕ
+outputAs text cleared out = outputAfter (cleared .verdict) (text (cleared .award)) out
 
 -- what a program prints: that text, or the line of the refusal
-unfoldable pub printedAs : (Award → List ℕ) → List ℕ → List ℕ
-printedAs text t = whenAccepted (clearText t .verdict) (text (clearText t .award)) (refusalText (clearText t .verdict))
+unfoldable pub printedAs : (Award → List ℕ) → Clearing → List ℕ
+printedAs text cleared = whenAccepted (cleared .verdict) (text (cleared .award)) (refusalText (cleared .verdict))
 
--- ---- the sheet and the page, and what the programs `clear` and `page` print
+-- ---- by the printed table: the sheet and the page, and what the programs `clear` and `page` print
+
+abbrev pub clearedByPrinted : List ℕ → Clearing
+clearedByPrinted = clearText printedTable
 
 abbrev pub sheetWritten : List ℕ → ℕ → TextWritten
-sheetWritten = writtenAs sheetText
+sheetWritten t = writtenAs sheetText (clearedByPrinted t)
 
 abbrev pub sheetOutput : List ℕ → List ℕ → List ℕ
-sheetOutput = outputAs sheetText
+sheetOutput t = outputAs sheetText (clearedByPrinted t)
 
 abbrev pub pageWritten : List ℕ → ℕ → TextWritten
-pageWritten = writtenAs pageText
+pageWritten t = writtenAs pageText (clearedByPrinted t)
 
 abbrev pub pageOutput : List ℕ → List ℕ → List ℕ
-pageOutput = outputAs pageText
+pageOutput t = outputAs pageText (clearedByPrinted t)
 
 abbrev pub clearPrints : List ℕ → List ℕ
-clearPrints = printedAs sheetText
+clearPrints t = printedAs sheetText (clearedByPrinted t)
 
 abbrev pub pagePrints : List ℕ → List ℕ
-pagePrints = printedAs pageText
+pagePrints t = printedAs pageText (clearedByPrinted t)

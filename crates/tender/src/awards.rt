@@ -1,12 +1,14 @@
 // The award of a text.
 ghost use mathlib.Core.Path.{_≡_};
-ghost use Rattle.tender.specs.FromText.{clearText};
+ghost use Rattle.sampling.specs.Entries.{tableEntries};
+ghost use Rattle.tender.specs.FromText.{clearText, clearedByPrinted};
 use clearing::Clearing;
 use refusal::Verdict;
+use sampling::Table;
 
-// The award of a text's book.
-pub fn clear(text: &[u8]) -> Clearing
-    ensures { λ r. ⌜ r ≡ clearText (now (text .entry)) ⌝ }
+// The award of a text's book, sampled by a table. It is no entry: it does not look whether the table passes.
+pub fn clear_sampled(table: Table, text: &[u8]) -> Clearing
+    ensures { λ r. ⌜ r ≡ clearText (tableEntries table) (now (text .entry)) ⌝ }
 {
     let read = bookreader::read(text);
     let verdict = read.verdict;
@@ -14,5 +16,13 @@ pub fn clear(text: &[u8]) -> Clearing
         return clearing::refused(verdict);
     }
     let book = read.book;
-    clearing::clear(book)
+    clearing::clear_sampled(table, book)
+}
+
+// The award of a text's book, sampled by the printed table.
+pub fn clear(text: &[u8]) -> Clearing
+    ensures { λ r. ⌜ r ≡ clearedByPrinted (now (text .entry)) ⌝ }
+{
+    let table = sampling::printed();
+    clear_sampled(table, text)
 }

@@ -7,7 +7,7 @@ use Rattle.forms.specs.Digits.{digitsWithin, digits, signedDigits}
 use Rattle.book.specs.Rules.{segmentInRange, bidInRange, segmentsRise, startNotNegative, bidVerdict, bidsVerdict, bookVerdict}
 use Rattle.booktext.specs.BookText.{segmentText, bidHead, bidText, bookHead, bookText}
 use Rattle.supply.specs.Supply.{supplyOf, on, priceAt, numberFrom, segmentNumber}
-use Rattle.sampling.specs.Sampling.{printedTable, sampleAbove, sampleOf}
+use Rattle.sampling.specs.Sampling.{printedBands, sampleAbove, sampleOf}
 use Rattle.divisions.specs.Award.{givesMore, better, pick}
 use Rattle.choices.specs.Choice.{fits, width, filled}
 use Rattle.choices.specs.Search.{each, leaf, search}
@@ -23,6 +23,6 @@ use Rattle.workedcases.proofs.Test.{passes, allPass}
 
 pub computed : allPass table books ≡ true
 unfolding table books every priceOf segmentInRange bidInRange segmentsRise startNotNegative bidVerdict bidsVerdict bookVerdict supplyOf on priceAt numberFrom segmentNumber
-    printedTable sampleAbove sampleOf givesMore better pick fits width filled each leaf search rowOf bookWithout digitsWithin digits signedDigits segmentText bidHead bidText
+    printedBands sampleAbove sampleOf givesMore better pick fits width filled each leaf search rowOf bookWithout digitsWithin digits signedDigits segmentText bidHead bidText
     bookHead bookText totalText rowText firstText sheetText refusalText eqBytes bookSmall bookFits passes allPass
 computed = refl

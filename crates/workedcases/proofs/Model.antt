@@ -16,6 +16,7 @@ use Rattle.book.specs.Rules.{bookVerdict}
 use Rattle.book.specs.Accepted.{AcceptedBid}
 use Rattle.book.proofs.Accepted.{all-accepted}
 use Rattle.supply.specs.Supply.{suppliesOf}
+use Rattle.sampling.specs.Entries.{TableEntries}
 use Rattle.divisions.specs.Award.{Priced, awardOfBook}
 use Rattle.choices.specs.Search.{searched}
 use Rattle.supply.proofs.Accepted.{sound-supplies}
@@ -30,32 +31,32 @@ use Rattle.clearing.specs.Clearing.{rowsFrom, awardRecord, clearedBook, clearOf
 abbrev searchedBook : BookEntries → Option Priced
 searchedBook b = searched (b .demand) (suppliesOf (b .bids))
 
-abbrev modelRows : BookEntries → ℕ → List BidEntries → List ℕ → List Row
-modelRows b i [] rs = []
-modelRows b i (bid ∷ bids) [] = []
-modelRows b i (bid ∷ bids) (r ∷ rs) = rowOf bid r (totalOf (searchedBook (bookWithout i b))) ∷ modelRows b (suc i) bids rs
+abbrev modelRows : TableEntries → BookEntries → ℕ → List BidEntries → List ℕ → List Row
+modelRows table b i [] rs = []
+modelRows table b i (bid ∷ bids) [] = []
+modelRows table b i (bid ∷ bids) (r ∷ rs) = rowOf table bid r (totalOf (searchedBook (bookWithout i b))) ∷ modelRows table b (suc i) bids rs
 
-abbrev modelCleared : BookEntries → Option Priced → Clearing
-modelCleared b none = refusedClearing (Refused NotCovered 0)
-modelCleared b (some award) = record {
+abbrev modelCleared : TableEntries → BookEntries → Option Priced → Clearing
+modelCleared table b none = refusedClearing (Refused NotCovered 0)
+modelCleared table b (some award) = record {
   verdict = Accepted;
   award = record {
     demand = record { 0 = b .demand };
     total = record { 0 = award .cost };
     count = b .count;
-    rows = padded 8 noRow (modelRows b 0 (b .bids) (award .quantities));
+    rows = padded 8 noRow (modelRows table b 0 (b .bids) (award .quantities));
   };
 }
 
-abbrev pub modelOf : BookEntries → Clearing
-modelOf b = whenAccepted (bookVerdict b) (modelCleared b (searchedBook b)) (refusedClearing (bookVerdict b))
+abbrev pub modelOf : TableEntries → BookEntries → Clearing
+modelOf table b = whenAccepted (bookVerdict b) (modelCleared table b (searchedBook b)) (refusedClearing (bookVerdict b))
 
 -- the search finds the award of a book's bids
 found : (b : BookEntries) → All AcceptedBid (b .bids) → searchedBook b ≡ awardOfBook b
 unfolding awardOfBook
 found b bids = finds (b .demand) _ (sound-supplies (b .bids) bids)
 
-module _ (b : BookEntries) (bids : All AcceptedBid (b .bids)) where
+module _ (table : TableEntries) (b : BookEntries) (bids : All AcceptedBid (b .bids)) where
   bids-left : (i : ℕ) → All AcceptedBid (bookWithout i b .bids)
   unfolding bookWithout
   bids-left i = all-removed AcceptedBid i (b .bids) bids
@@ -64,13 +65,13 @@ module _ (b : BookEntries) (bids : All AcceptedBid (b .bids)) where
   unfolding totalWithout
   totals i = ap totalOf (found (bookWithout i b) (bids-left i))
 
-  rows : (i : ℕ) (bs : List BidEntries) (rs : List ℕ) → modelRows b i bs rs ≡ rowsFrom b i bs rs
+  rows : (i : ℕ) (bs : List BidEntries) (rs : List ℕ) → modelRows table b i bs rs ≡ rowsFrom table b i bs rs
   unfolding rowsFrom
   rows i [] rs = refl
   rows i (x ∷ bs) [] = refl
-  rows i (x ∷ bs) (r ∷ rs) = ap₂ (λ (t : Total) (l : List Row). rowOf x r t ∷ l) (totals i) (rows (suc i) bs rs)
+  rows i (x ∷ bs) (r ∷ rs) = ap₂ (λ (t : Total) (l : List Row). rowOf table x r t ∷ l) (totals i) (rows (suc i) bs rs)
 
-  answers : (o : Option Priced) → modelCleared b o ≡ clearedBook b o
+  answers : (o : Option Priced) → modelCleared table b o ≡ clearedBook table b o
   unfolding clearedBook awardRecord
   answers none = refl
   answers (some award) =
@@ -80,12 +81,12 @@ module _ (b : BookEntries) (bids : All AcceptedBid (b .bids)) where
       }) (rows 0 (b .bids) (award .quantities))
 
 -- a book that is refused by rules 3 to 8 has one answer, and else the search decides
-pub model-is : (b : BookEntries) → modelOf b ≡ clearOf b
+pub model-is : (table : TableEntries) (b : BookEntries) → modelOf table b ≡ clearOf table b
 unfolding clearOf
-model-is b = go (bookVerdict b) refl
+model-is table b = go (bookVerdict b) refl
   where
-    go : (v : Verdict) → bookVerdict b ≡ v → modelOf b ≡ clearOf b
+    go : (v : Verdict) → bookVerdict b ≡ v → modelOf table b ≡ clearOf table b
     go Accepted e =
         let bids = all-accepted b e in
-        rw e (ap (modelCleared b) (found b bids) ∙ answers b bids (awardOfBook b))
+        rw e (ap (modelCleared table b) (found b bids) ∙ answers table b bids (awardOfBook b))
     go (Refused rule line) e = rw e

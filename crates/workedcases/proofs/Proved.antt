@@ -13,7 +13,8 @@ use Rattle.booktext.specs.Record.{bookRecord}
 use Rattle.bookreader.specs.declared.BookRead.{BookRead}
 use Rattle.bookreader.specs.Reading.{bookAnswer, readOf}
 use Rattle.bookreader.proofs.Answers.{read-text, accepted-answer}
-use Rattle.tender.specs.FromText.{clearText, clearPrints, printedAs}
+use Rattle.sampling.specs.Sampling.{printedTable}
+use Rattle.tender.specs.FromText.{clearText, clearedByPrinted, clearPrints, printedAs}
 use Rattle.clearing.specs.Clearing.{clearOf}
 use Rattle.clearing.proofs.Answers.{rules-first}
 use Rattle.workedcases.specs.Table.{Case, table}
@@ -24,21 +25,21 @@ use Rattle.workedcases.proofs.Computed.{computed}
 
 -- a text that is read as a book's record is cleared as the book
 module _ (t : List ℕ) (b : BookEntries) (read : readOf t ≡ bookAnswer b) (fits : bookEntries (bookRecord b) ≡ b) where
-  cleared-as : clearText t ≡ clearOf b
+  cleared-as : clearedByPrinted t ≡ clearOf printedTable b
   unfolding clearText bookAnswer
   cleared-as = go (bookVerdict (bookEntries (bookRecord b))) refl
     where
-      go : (v : Verdict) → bookVerdict (bookEntries (bookRecord b)) ≡ v → clearText t ≡ clearOf b
-      go Accepted e = rw (read ∙ accepted-answer b e) (ap clearOf fits)
+      go : (v : Verdict) → bookVerdict (bookEntries (bookRecord b)) ≡ v → clearedByPrinted t ≡ clearOf printedTable b
+      go Accepted e = rw (read ∙ accepted-answer b e) (ap (clearOf printedTable) fits)
       go (Refused rule line) e =
           let told : readOf t .verdict ≡ Refused rule line = ap (λ (r : BookRead). r .verdict) read ∙ e in
-          rw told (sym (rules-first b rule line (ap bookVerdict (sym fits) ∙ e)))
+          rw told (sym (rules-first printedTable b rule line (ap bookVerdict (sym fits) ∙ e)))
 
 case-proved : (c : Case) (b : BookEntries) → Passed c b → clearPrints (c .text) ≡ c .printed
 unfolding printedAs
 case-proved c b k =
     let read = sym (read-text (c .text) (k .short) b (k .text)) in
-    ap printedFor (cleared-as (c .text) b read (k .fits) ∙ sym (model-is b)) ∙ k .shown
+    ap printedFor (cleared-as (c .text) b read (k .fits) ∙ sym (model-is printedTable b)) ∙ k .shown
 
 cases-proved : (cs : List Case) (bs : List BookEntries) → allPass cs bs ≡ true → All (λ (c : Case). clearPrints (c .text) ≡ c .printed) cs
 unfolding allPass

@@ -12,6 +12,7 @@ use Rattle.book.specs.Entries.{BookEntries, bookEntries}
 use Rattle.booktext.specs.BookText.{bookText}
 use Rattle.booktext.specs.Record.{bookRecord}
 use Rattle.booktext.specs.WellFormed.{WellFormedBook}
+use Rattle.sampling.specs.Sampling.{printedTable}
 use Rattle.sheettext.specs.Sheet.{sheetText, refusalText}
 use Rattle.clearing.specs.declared.Clearing.{Clearing}
 use Rattle.workedcases.specs.Table.{Case}
@@ -32,7 +33,7 @@ tests c b =
     ∷ leb (length (c .text)) 4096
     ∷ bookSmall b
     ∷ bookFits b
-    ∷ eqBytes (printedFor (modelOf b)) (c .printed)
+    ∷ eqBytes (printedFor (modelOf printedTable b)) (c .printed)
     ∷ []
 
 unfoldable pub passes : Case → BookEntries → Bool
@@ -48,7 +49,7 @@ pub record Passed (c : Case) (b : BookEntries) : Type 0 where
   pub text : TextOf WellFormedBook bookText (c .text) b
   pub short : length (c .text) ≤ 4096
   pub fits : bookEntries (bookRecord b) ≡ b
-  pub shown : printedFor (modelOf b) ≡ c .printed
+  pub shown : printedFor (modelOf printedTable b) ≡ c .printed
 
 pub passed : (c : Case) (b : BookEntries) → passes c b ≡ true → Passed c b
 unfolding passes
@@ -59,5 +60,5 @@ passed c b e =
       text = record { well-formed = formed; is = same-bytes (c .text) (bookText b) (h .0) };
       short = leb-true (length (c .text)) 4096 (h .1 .0);
       fits = book-fits b formed (h .1 .1 .1 .0);
-      shown = same-bytes (printedFor (modelOf b)) (c .printed) (h .1 .1 .1 .1 .0);
+      shown = same-bytes (printedFor (modelOf printedTable b)) (c .printed) (h .1 .1 .1 .1 .0);
     }

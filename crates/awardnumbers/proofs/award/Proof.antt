@@ -1,56 +1,15 @@
--- A refusal of the text, a list that is too short, or the rows in full; an award has at most eight rows, so no product overflows.
-use Prim.Native.Nat.{_≤_}
-use native.Mathlib.Omega.{arith}
+-- What was cleared is the award by the printed table, which has at most eight rows.
 use borrow.Author.Needs.{needs}
 use Rattle.awardnumbers.proofs.Counts.{few-answered}
-use Rattle.awardnumbers.proofs.Awards.{refused-before, too-short, in-full}
+use Rattle.awardnumbers.proofs.Awards.{said-of}
 use Rattle.awardnumbers.proofs.award.Statement.{statement}
 use Rattle.awardnumbers.proofs.award.Tie as tie
 
--- the call, seen from where the text has been cleared
-abbrev start : tie.After-clear → tie.Start
-start c = c .before .before .before
+numbers-requires : tie.Need-numbers-requires
+numbers-requires c κs = few-answered _ _ _ (c .before .clear .ensures)
 
 returns : tie.Need-returns
-returns c =
-    let told = c .before .enum-told .given in
-    let clear = c .before .before .before .clear in
-    let a = start (c .before .before .before) .args in
-    refused-before (a .text .now) (a .rows .now) (clear .result) (clear .ensures) (told .0 .0) (told .0 .1 .0) (told .1) (c .refused .result) (c .refused .ensures)
-
-few-rows : (c : tie.After-enum-told2) → c .before .before .clear .result .award .count ≤ 8
-few-rows c = let clear = c .before .before .clear in few-answered _ (clear .result) (clear .ensures) (c .enum-told2 .given .1)
-
-returns-2 : tie.Need-returns-2
-returns-2 c =
-    let told = c .before .before .before in
-    let clear = told .before .before .clear in
-    let a = start (told .before .before) .args in
-    too-short (a .text .now) (a .rows .now) (clear .result) (clear .ensures) (told .enum-told2 .given .1) (c .before .if1 .taken)
-    (c .refused2 .result) (c .refused2 .ensures)
-
-returns-3 : tie.Need-returns-3
-returns-3 c =
-    let written = c .before .before .before .before in
-    let put = written .put-rows in
-    let fits = written .before .before in
-    let told = fits .before .before in
-    let clear = told .before .before .clear in
-    let a = start (told .before .before) .args in
-    in-full (a .text .now) (a .rows .now) (clear .result) (clear .ensures) (told .enum-told2 .given .1) (fits .if1 .left)
-    (c .magnitude .result) (c .magnitude .ensures) (put .last .0) (put .ensures)
+returns c = said-of (c .before .before .before .before .clear .ensures) _ (c .before .before .numbers .ensures)
 
 pub award-spec : {M : Type 1} → statement M
-award-spec =
-    tie.close
-    (tie.spec
-    (λ c κs. search needs) (λ c. search needs) (λ c κs. search needs)
-    returns
-    (λ c. search needs)
-    (λ c. omega (arith, few-rows (c .before)))
-    (λ c. omega (arith, few-rows (c .before .before)))
-    (λ c κs. search needs)
-    returns-2
-    (λ c κs. record { held = few-rows (c .before .before .before); fits = c .before .if1 .left })
-    (λ c κs. search needs) (λ c. search needs)
-    returns-3)
+award-spec = tie.close (tie.spec (λ c κs. search needs) numbers-requires (λ c. search needs) returns)

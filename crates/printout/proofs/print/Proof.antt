@@ -7,8 +7,9 @@ use Rattle.printout.proofs.print.Tie as tie
 returns : tie.Need-returns
 returns c =
     let p = c .before .before .write in
-    let s = c .before .before .before .before .before .before in
-    all-printed (s .args .layout) (s .args .text .now) (s .args .out .now) (s .pre) (p .result) (p .last .1 .1 .0) (p .kept .1 .1 .0) (p .ensures)
+    let cleared = c .before .before .before .before .clear in
+    let s = c .before .before .before .before .before .before .before in
+    all-printed (s .args .layout) (s .args .text .now) (s .args .out .now) (s .pre) (cleared .ensures) (p .result) (p .last .1 .1 .0) (p .kept .1 .1 .0) (p .ensures)
 
 pub print-spec : {M : Type 1} → statement M
-print-spec = tie.close (tie.spec (λ c κs. search needs) (λ c. search needs) returns)
+print-spec = tie.close (tie.spec (λ c κs. search needs) (λ c κs. search needs) (λ c. search needs) returns)

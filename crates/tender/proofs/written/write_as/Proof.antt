@@ -17,22 +17,22 @@ text layout cleared = layoutText layout (cleared .award)
 returns : tie.Need-returns
 unfolding writtenAs outputAs
 returns c =
-    let cleared = c .before .before .before in
-    none-written (λ (r : Clearing). r .verdict) (cleared .clear .ensures) (c .before .enum-told .given .1) (text (cleared .before .before .before .args .layout)) _ (c .refused .ensures)
+    let a = c .before .before .before .before .args in
+    none-written (λ (r : Clearing). r .verdict) refl (c .before .enum-told .given .1) (text (a .layout)) _ (c .refused .ensures)
 
 returns-2 : tie.Need-returns-2
 unfolding writtenAs outputAs
 returns-2 c =
     let write = c .before .before .write in
     let told = c .before .before .before .before .before in
-    let cleared = told .before .before in
-    text-written (λ (r : Clearing). r .verdict) (cleared .clear .ensures) (told .enum-told2 .given .1) (text (cleared .before .before .before .args .layout)) _ refl (write .ensures)
+    let a = told .before .before .before .args in
+    text-written (λ (r : Clearing). r .verdict) refl (told .enum-told2 .given .1) (text (a .layout)) _ refl (write .ensures)
 
 pub write-as-spec : {M : Type 1} → statement M
 write-as-spec =
     tie.close
     (tie.spec
-    (λ c κs. search needs) (λ c. search needs) (λ c κs. search needs)
+    (λ c. search needs) (λ c κs. search needs)
     returns
     (λ c. search needs) (λ c κs. search needs) (λ c. search needs)
     returns-2)
