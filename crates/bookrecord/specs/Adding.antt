@@ -1,17 +1,12 @@
 -- For the contracts of the functions that fill a record: a record with an entry more, stored where the array is not full, and counted.
-use Prim.Native.Nat.{ℕ, _+_}
-use mathlib.Core.Bool.{cond}
+use Prim.Native.Nat.{_+_}
 use mathlib.Core.List.{List, foldl}
-use lib.Dec.{ltb}
-use lib.ListN.{set}
+use Rattle.lists.specs.Padded.{added}
 use Rattle.book.specs.declared.Segment.{Segment}
 use Rattle.book.specs.declared.Bid.{Bid}
 use Rattle.book.specs.declared.Book.{Book}
 use Rattle.book.specs.Entries.{BidEntries}
 use Rattle.booktext.specs.Record.{bidRecord}
-
-abbrev pub added : {A : Type 0} → ℕ → List A → ℕ → A → List A
-added places xs count x = cond (ltb count places) (set xs count x) xs
 
 abbrev pub withSegment : Bid → Segment → Bid
 withSegment b s = record { bidder = b .bidder; carriage = b .carriage; count = b .count + 1; segments = added 6 (b .segments) (b .count) s }

@@ -1,17 +1,13 @@
 -- The shape (document 01, section "The bid book"): which books have a text. One or more bids, one or more segments in each, any number of
 -- both, and numbers of at most thirteen digits, whatever the ranges.
-use Prim.Native.Nat.{ℕ, _≤_}
+use Prim.Native.Nat.{_≤_}
 use mathlib.Core.Path.{_≡_}
 use lib.IntN.{natAbs}
 use lib.ListN.{length}
 use Rattle.lists.specs.All.{All}
-use Rattle.forms.specs.Digits.{digits}
 use Rattle.book.specs.declared.Segment.{Segment}
 use Rattle.book.specs.Entries.{BidEntries, BookEntries}
-
--- `0`, or a digit 1 to 9 and at most twelve further digits
-abbrev pub ThirteenDigits : ℕ → Type 0
-ThirteenDigits n = length (digits n) ≤ 13
+use Rattle.forms.specs.Number.{ThirteenDigits}
 
 pub record WellFormedSegment (s : Segment) : Type 0 where
   pub start : ThirteenDigits (s .start .0)

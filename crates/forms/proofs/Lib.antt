@@ -13,6 +13,7 @@ pub mod Signed
 pub mod Whole
 pub mod Place
 pub mod Repeat
+pub mod Collecting
 pub mod Framed
 pub mod Spaced
 pub mod Column

@@ -17,9 +17,13 @@ unfoldable pub number-parse : ℕ → List ℕ → Parse ℕ
 number-parse least [] = stopped 0
 number-parse least (b ∷ t) = cond (isFirst least b) (further (b - 48) t) (stopped 0)
 
+-- `0`, or a digit 1 to 9 and at most twelve further digits
+abbrev pub ThirteenDigits : ℕ → Type 0
+ThirteenDigits n = length (digits n) ≤ 13
+
 -- from `least` on, which is 0 or 1, and of at most thirteen digits
 abbrev pub Number : ℕ → ℕ → Type 0
-Number least n = (least ≤ n) × (length (digits n) ≤ 13)
+Number least n = (least ≤ n) × ThirteenDigits n
 
 abbrev pub number : ℕ → Form ℕ
 number least = record { Valid = Number least; text = digits; Follow = NoDigit; parse = number-parse least }

@@ -1,11 +1,10 @@
 -- A number that may have `-` before it, never before 0.
-use Prim.Native.Nat.{ℕ, _≤_}
+use Prim.Native.Nat.{ℕ}
 use mathlib.Core.Logic.{_⊎_, inl, inr}
 use lib.IntN.{ℤ, pos, negℤ, natAbs}
-use lib.ListN.{length}
-use Rattle.forms.specs.Digits.{digits, signedDigits}
+use Rattle.forms.specs.Digits.{signedDigits}
 use Rattle.forms.specs.Form.{Form}
-use Rattle.forms.specs.Number.{number}
+use Rattle.forms.specs.Number.{ThirteenDigits, number}
 use Rattle.forms.specs.Combined.{either, via}
 
 -- `-` and a number from 1 on, or a number
@@ -19,7 +18,7 @@ integer (inr n) = pos n
 
 -- of at most thirteen digits, whatever the sign
 abbrev pub Integer : ℤ → Type 0
-Integer z = length (digits (natAbs z)) ≤ 13
+Integer z = ThirteenDigits (natAbs z)
 
 abbrev pub signed : Form ℤ
 signed = via minus-or-none integer Integer signedDigits

@@ -4,6 +4,7 @@ pub mod Everywhere
 pub mod All
 pub mod Joined
 pub mod Padded
+pub mod Filled
 pub mod Latest
 pub mod Members
 pub mod Removed

@@ -4,12 +4,12 @@ use native.Mathlib.Omega.{arith}
 use mathlib.Core.Path.{sym, ap, _∙_}
 use Rattle.book.specs.declared.Book.{Book}
 use Rattle.book.specs.Entries.{BidEntries}
+use Rattle.forms.proofs.Collecting.{Collected, collected-first, collected-next, collected-done, left, left-falls}
 use Rattle.booktext.specs.BookForm.{bid}
 use Rattle.booktext.specs.Record.{bidRecord}
 use Rattle.booktext.proofs.BookForm.{bid-laws, bid-open}
 use Rattle.bookrecord.specs.Adding.{withBid}
 use Rattle.bookrecord.proofs.Kept.{bidCount}
-use Rattle.booklines.proofs.Collecting.{Collected, collected-first, collected-next, collected-done, left, left-falls}
 use Rattle.booklines.proofs.bids.Statement.{statement}
 use Rattle.booklines.proofs.bids.Tie as tie
 

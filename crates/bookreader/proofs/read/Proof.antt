@@ -1,13 +1,14 @@
--- By cases: too long, stopped, bytes left over, refused by a rule, accepted; each is a law of `readOf` (`Answers`). Assumes nothing.
+-- By cases: too long, stopped, bytes left over, refused by a rule, accepted; each is a law of every kind of text (`textreading`). Assumes nothing.
 use Prim.Native.Nat.{ℕ, _≤_}
 use mathlib.Core.List.{List}
 use mathlib.Core.Path.{_≡_, _∙_, subst}
 use lib.ListN.{length}
 use Rattle.book.specs.Entries.{BookEntries}
 use Rattle.forms.specs.Place.{Found, Gives}
+use Rattle.textreading.proofs.Answers.{read-long, read-stopped, read-ended, read-whole, answer-refused, answer-accepted}
 use Rattle.booktext.specs.BookForm.{book}
 use Rattle.bookreader.specs.Reading.{bookAnswer, readOf}
-use Rattle.bookreader.proofs.Answers.{read-long, read-stopped, read-ended, read-whole, answer-refused, answer-accepted}
+use Rattle.bookreader.proofs.Answers.{books}
 use borrow.Author.Needs.{needs}
 use Rattle.bookreader.proofs.read.Statement.{statement}
 use Rattle.bookreader.proofs.read.Tie as tie
@@ -36,22 +37,22 @@ found : (c : tie.After-struct-known) → let p = parsed c in Found book (text p)
 found c = let p = parsed c in subst (Gives book (text p) 0 (entries p) (place p)) (c .before .if2 .left) (p .book .ensures .2)
 
 whole : (c : tie.After-check) → let p = parsed (ended c) in bookAnswer (entries p) ≡ readOf (text p)
-whole c = let p = parsed (ended c) in read-whole (text p) (short p) (entries p) (place p) (found (ended c)) (c .before .before .if3 .left)
+whole c = let p = parsed (ended c) in read-whole books (text p) (short p) (entries p) (place p) (found (ended c)) (c .before .before .if3 .left)
 
 returns : tie.Need-returns
-returns c = c .refused .ensures ∙ read-long (c .before .before .before .args .text .now) (c .before .if1 .taken)
+returns c = c .refused .ensures ∙ read-long books (c .before .before .before .args .text .now) (c .before .if1 .taken)
 
 returns-2 : tie.Need-returns-2
 returns-2 c =
     let p = c .before .before .before in
     c .refused2 .ensures
-    ∙ read-stopped (text p) (short p) (place p) (subst (Gives book (text p) 0 (entries p) (place p)) (c .before .if2 .taken) (p .book .ensures .2))
+    ∙ read-stopped books (text p) (short p) (place p) (subst (Gives book (text p) 0 (entries p) (place p)) (c .before .if2 .taken) (p .book .ensures .2))
 
 returns-3 : tie.Need-returns-3
 returns-3 c =
     let e = c .before .before in
     let p = parsed e in
-    c .refused3 .ensures ∙ read-ended (text p) (short p) (entries p) (place p) (found e) (c .before .if3 .taken)
+    c .refused3 .ensures ∙ read-ended books (text p) (short p) (entries p) (place p) (found e) (c .before .if3 .taken)
 
 returns-4 : tie.Need-returns-4
 returns-4 c =
@@ -59,15 +60,15 @@ returns-4 c =
     let k = told .before .before in
     let p = parsed (ended k) in
     c .refused4 .ensures
-    ∙ answer-refused (entries p) (p .book .result .book) (k .check .result) (told .verdict .given .0 .0) (told .verdict .given .0 .1 .0)
-    (p .book .ensures .1) (k .check .ensures) (told .verdict .given .1)
+    ∙ answer-refused books (entries p) (p .book .result .book) (k .check .result) (p .book .ensures .1) (k .check .ensures)
+    (told .verdict .given .0 .0) (told .verdict .given .0 .1 .0) (told .verdict .given .1)
     ∙ whole k
 
 returns-5 : tie.Need-returns-5
 returns-5 c =
     let k = c .before .before in
     let p = parsed (ended k) in
-    answer-accepted (entries p) (p .book .result .book) (k .check .result) (p .book .ensures .1) (k .check .ensures) (c .enum-told .given .1)
+    answer-accepted books (entries p) (p .book .result .book) (k .check .result) (p .book .ensures .1) (k .check .ensures) (c .enum-told .given .1)
     ∙ whole k
 
 pub read-spec : {M : Type 1} → statement M

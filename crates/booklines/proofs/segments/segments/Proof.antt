@@ -2,11 +2,11 @@
 use Prim.Native.Nat.{ℕ, _+_}
 use native.Mathlib.Omega.{arith}
 use mathlib.Core.Path.{sym, ap, _∙_}
+use Rattle.forms.proofs.Collecting.{Collected, collected-first, collected-next, collected-done, left, left-falls}
 use Rattle.booktext.specs.BookForm.{segment}
 use Rattle.booktext.proofs.BookForm.{segment-laws, segment-space}
 use Rattle.bookrecord.specs.Adding.{withSegment}
 use Rattle.bookrecord.proofs.Kept.{segmentCount}
-use Rattle.booklines.proofs.Collecting.{Collected, collected-first, collected-next, collected-done, left, left-falls}
 use Rattle.booklines.proofs.segments.segments.Statement.{statement}
 use Rattle.booklines.proofs.segments.segments.Tie as tie
 
