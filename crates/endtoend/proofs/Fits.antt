@@ -21,7 +21,7 @@ use Rattle.supply.specs.Sound.{mostBlanks}
 use Rattle.book.proofs.Accepted.{book-accepted}
 use Rattle.sampling.specs.Entries.{TableEntries}
 use Rattle.sampling.specs.Sampling.{printedTable}
-use Rattle.sampling.proofs.Bands.{printed-small}
+use Rattle.tablerules.proofs.Passing.{printed-passes, sample-small}
 use Rattle.award.specs.declared.Total.{Total}
 use Rattle.award.specs.declared.Total.the-variants.{Amount, Nothing}
 use Rattle.award.specs.declared.Row.{Row}
@@ -117,6 +117,9 @@ module _ (table : TableEntries) (small : SmallSamples table) (t : List ℕ) wher
   -- 600 bytes hold the sheet
   pub in-600 : clearText table t .verdict ≡ Accepted → length (sheetText (clearText table t .award)) ≤ 600
   in-600 e = omega (arith, sheet-fits e)
+
+pub printed-small : SmallSamples printedTable
+printed-small = sample-small printedTable printed-passes
 
 -- 600 bytes hold whatever is printed, so that rule 10 never arises with them: of a text, by the printed table
 module _ (t : List ℕ) where

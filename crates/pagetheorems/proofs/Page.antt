@@ -13,7 +13,6 @@ use Rattle.output.specs.Writing.{writtenOf}
 use Rattle.output.proofs.Answers.{accepted-before, text-written}
 use Rattle.sampling.specs.Entries.{TableEntries}
 use Rattle.sampling.specs.Sampling.{printedTable}
-use Rattle.sampling.proofs.Bands.{printed-small}
 use Rattle.award.specs.declared.Award.{Award}
 use Rattle.sheettext.specs.Sheet.{sheetText}
 use Rattle.pagetext.specs.Page.{pageText}
@@ -26,7 +25,7 @@ use Rattle.clearing.specs.Clearing.{clearOf}
 use Rattle.awardtheorems.proofs.Amounts.{SmallSamples}
 use Rattle.tender.specs.FromText.{clearText, writtenAs, outputAs, clearedByPrinted, sheetWritten, pageWritten, pageOutput, pagePrints}
 use Rattle.endtoend.proofs.ClearedText.{of-records}
-use Rattle.endtoend.proofs.Fits.{few, sheet-verdict}
+use Rattle.endtoend.proofs.Fits.{few, printed-small, sheet-verdict}
 use Rattle.endtoend.proofs.Places.{before-output}
 use Rattle.endtoend.proofs.LongEnough.{printed-fits, same-verdict, never-10}
 use Rattle.pagetheorems.proofs.Fits.{page-fits, none-negative}

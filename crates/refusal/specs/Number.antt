@@ -1,7 +1,7 @@
--- The numbers and places of document 01, section "What is turned down".
+-- The numbers and places of document 01, section "What is turned down", and of document 02.
 use Prim.Native.Nat.{ℕ}
 use Rattle.refusal.specs.declared.Rule.{Rule}
-use Rattle.refusal.specs.declared.Rule.the-variants.{TextLength, Shape, BidCount, SegmentCount, Range, BidderOrder, SegmentOrder, NegativePrice, NotCovered, OutputLength, SplitQuantity}
+use Rattle.refusal.specs.declared.Rule.the-variants.{TextLength, Shape, BidCount, SegmentCount, Range, BidderOrder, SegmentOrder, NegativePrice, NotCovered, OutputLength, SplitQuantity, SamplingTable}
 use Rattle.refusal.specs.declared.Verdict.{Verdict}
 use Rattle.refusal.specs.declared.Verdict.the-variants.{Accepted, Refused}
 
@@ -17,6 +17,7 @@ ruleNumber NegativePrice = 8  -- a negative price at a start
 ruleNumber NotCovered = 9  -- no allocation meets the demand exactly
 ruleNumber OutputLength = 10  -- the lent output is shorter than the text or sheet
 ruleNumber SplitQuantity = 11  -- a proposed quantity missing, neither 0 nor on a segment, or one too many
+ruleNumber SamplingTable = 12  -- a band of a sampling table that breaks a rule (document 02, change 3)
 
 -- the number and the place that a verdict shows; 0 and 0 where nothing is refused
 abbrev pub numberOf : Verdict → ℕ

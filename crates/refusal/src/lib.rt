@@ -2,7 +2,7 @@
 ghost use mathlib.Core.Path.{_≡_};
 ghost use Rattle.refusal.specs.Number.{numberOf, placeOf};
 
-// A rule of document 01, section "What is turned down", in the order of its numbers from 1.
+// A rule of document 01, section "What is turned down", or of document 02, in the order of its numbers from 1.
 pub enum Rule {
     TextLength,
     Shape,
@@ -15,6 +15,7 @@ pub enum Rule {
     NotCovered,
     OutputLength,
     SplitQuantity,
+    SamplingTable,
 }
 
 // Accepted, or refused by a rule at a place (a line, a place in the text or a length).
@@ -41,6 +42,7 @@ pub fn number(verdict: Verdict) -> u64
             Rule::NotCovered => 9,
             Rule::OutputLength => 10,
             Rule::SplitQuantity => 11,
+            Rule::SamplingTable => 12,
         },
     }
 }

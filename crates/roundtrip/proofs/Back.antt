@@ -3,8 +3,9 @@
 use Prim.Native.Nat.{ℕ, _≤_}
 use native.Mathlib.Omega.{arith}
 use mathlib.Core.List.{List}
-use mathlib.Core.Path.{_≡_, sym}
+use mathlib.Core.Path.{_≡_, refl, sym}
 use lib.ListN.{length, take}
+use Rattle.lists.proofs.All.{all-same}
 use Rattle.refusal.specs.declared.Verdict.the-variants.{Accepted}
 use Rattle.book.specs.declared.Book.{Book}
 use Rattle.book.specs.Entries.{bookEntries, SameBook}
@@ -12,9 +13,9 @@ use Rattle.book.specs.Rules.{bookVerdict}
 use Rattle.book.specs.Room.{roomOf}
 use Rattle.forms.specs.Shape.{TextOf}
 use Rattle.booktext.specs.BookText.{bookText}
-use Rattle.booktext.specs.Record.{bookRecord}
+use Rattle.booktext.specs.Record.{emptyBid, bookRecord}
 use Rattle.booktext.specs.WellFormed.{WellFormedBook}
-use Rattle.booktext.specs.Arrays.{Arrays}
+use Rattle.booktext.specs.Arrays.{SixSegments, Arrays}
 use Rattle.booktext.proofs.Accepted.{well-formed, same-record}
 use Rattle.booktext.proofs.Records.{entries-of-record, record-arrays}
 use Rattle.booktext.proofs.Room.{room-bounds, text-short}
@@ -29,7 +30,14 @@ short : (b : Book) → Arrays b → bookVerdict (bookEntries b) ≡ Accepted →
 short b arrays accepted = omega (arith, text-short (bookEntries b) (well-formed b arrays accepted) accepted)
 
 kept : Any.Kept books Arrays
-kept = record { well-formed = well-formed; text-short = short; same-record = same-record; full = record-arrays; entries-of-record = entries-of-record }
+kept = record {
+  well-formed = well-formed;
+  text-short = short;
+  same-record = same-record;
+  full = record-arrays;
+  zeros-full = record { bids = refl; segments = all-same SixSegments 8 emptyBid refl };
+  entries-of-record = entries-of-record;
+}
 
 -- a record whose book is accepted
 module _ (b : Book) (arrays : Arrays b) (accepted : bookVerdict (bookEntries b) ≡ Accepted) where
@@ -80,7 +88,7 @@ module _ (t : List ℕ) (accepted : readOf t .verdict ≡ Accepted) where
   written-read = Any.written-read kept t accepted
 
   pub arrays-read : Arrays (readOf t .book)
-  arrays-read = Any.held-full kept t accepted
+  arrays-read = Any.read-full kept t
 
 -- a text is accepted exactly if it is the text of an accepted book, and then means that book
 pub accepted-text : (t : List ℕ) → readOf t .verdict ≡ Accepted → (b : Book) × Arrays b × (bookVerdict (bookEntries b) ≡ Accepted) × (t ≡ textOf b)

@@ -1,3 +1,4 @@
 mod Texts
 pub mod Reading
 pub mod Back
+pub mod Tables

@@ -4,11 +4,13 @@ use mathlib.Core.List.{List}
 use mathlib.Core.Path.{_≡_, refl, sym, ap, _∙_, subst}
 use borrow.Author.Tests.{le-leb}
 use lib.ListN.{length, take}
-use Rattle.refusal.specs.declared.Verdict.the-variants.{Accepted}
-use Rattle.forms.specs.Shape.{TextOf}
+use Rattle.refusal.specs.Checks.{whenAccepted}
+use Rattle.refusal.specs.declared.Verdict.{Verdict}
+use Rattle.refusal.specs.declared.Verdict.the-variants.{Accepted, Refused}
+use Rattle.forms.specs.Shape.{TextOf, of-shape, not-of-shape, answer}
 use Rattle.textreading.proofs.Kind.{Kind}
 use Rattle.textreading.proofs.Answers.{read-text, accepted-answer}
-use Rattle.textreading.proofs.Told.{ReadAs, accepted-as}
+use Rattle.textreading.proofs.Told.{Answered, by-length, by-reading, ReadAs, read-answered, accepted-as}
 use Rattle.printer.specs.Written.{written}
 use Rattle.output.specs.Writing.{writingVerdict, writtenOf, outputAfter}
 use Rattle.output.proofs.Answers as Output
@@ -19,8 +21,9 @@ pub record Kept {A R C : Type 0} (k : Kind A R C) (Full : R → Type 0) : Type 1
   pub well-formed : (r : R) → Full r → k .verdictOf (k .entriesOf r) ≡ Accepted → k .form .Valid (k .entriesOf r)
   pub text-short : (r : R) → Full r → k .verdictOf (k .entriesOf r) ≡ Accepted → length (k .form .text (k .entriesOf r)) ≤ 4096
   pub same-record : (r : R) → Full r → k .verdictOf (k .entriesOf r) ≡ Accepted → k .entriesOf (k .recordOf (k .entriesOf r)) ≡ k .entriesOf r
-  -- of the entries of a text: their record has its arrays in full, and where it passes the rules it means them
+  -- of the entries of a text: their record has its arrays in full, as that of zeros has, and where it passes the rules it means them
   pub full : (a : A) → Full (k .recordOf a)
+  pub zeros-full : Full (k .zeros)
   pub entries-of-record : (a : A) → k .form .Valid a → k .verdictOf (k .entriesOf (k .recordOf a)) ≡ Accepted → k .entriesOf (k .recordOf a) ≡ a
 
 module _ {A R C : Type 0} {k : Kind A R C} {Full : R → Type 0} (kept : Kept k Full) where
@@ -36,7 +39,7 @@ module _ {A R C : Type 0} {k : Kind A R C} {Full : R → Type 0} (kept : Kept k 
 
   -- the text of a record that passes is accepted, and is read as the same
   module _ (r : R) (its : Full r) (passes : Passes r) where
-    read-record : k .readOf (textOf r) ≡ k .answering Accepted (k .recordOf (k .entriesOf r))
+    pub read-record : k .readOf (textOf r) ≡ k .answering Accepted (k .recordOf (k .entriesOf r))
     read-record =
         let it : TextOf (k .form .Valid) (k .form .text) (textOf r) (k .entriesOf r) =
         record { well-formed = kept .well-formed r its passes; is = refl } in
@@ -87,12 +90,9 @@ module _ {A R C : Type 0} {k : Kind A R C} {Full : R → Type 0} (kept : Kept k 
     pub held-passes : Passes held
     held-passes = ap (λ (r : R). k .verdictOf (k .entriesOf r)) held-is ∙ read-as .accepted
 
-    -- with zeros past the counts, and its arrays in full
+    -- with zeros past the counts
     pub zeros-past : held ≡ k .recordOf (k .entriesOf held)
     zeros-past = held-is ∙ ap (k .recordOf) (sym entries-are)
-
-    pub held-full : Full held
-    held-full = subst Full (sym held-is) (kept .full meant)
 
     -- writing what was read gives the same text, where the output has room for it
     pub written-read : (out : List ℕ) → length t ≤ length out
@@ -100,3 +100,22 @@ module _ {A R C : Type 0} {k : Kind A R C} {Full : R → Type 0} (kept : Kept k 
         × (outputAfter (k .verdictOf (k .entriesOf held)) (textOf held) out ≡ written out 0 t)
     unfolding writingVerdict writtenOf outputAfter
     written-read out h = rw (held-passes, same-text, le-leb (length t) (length out) h) (refl, refl)
+
+  -- whatever the text, the record that is read has its arrays in full
+  pub read-full : (t : List ℕ) → Full (k .recordIn (k .readOf t))
+  unfolding answer
+  read-full t = go (read-answered k t)
+    where
+      answered-full : (v : Verdict) (r : R) → Full r → k .readOf t ≡ k .answering v r → Full (k .recordIn (k .readOf t))
+      answered-full v r its q = subst Full (sym (ap (k .recordIn) q ∙ k .record-in v r)) its
+
+      given : (v : Verdict) (a : A) → Full (whenAccepted v (k .recordOf a) (k .zeros))
+      given Accepted a = kept .full a
+      given (Refused rule place) a = kept .zeros-full
+
+      go : Answered k t → Full (k .recordIn (k .readOf t))
+      go (by-length h q) = answered-full _ _ (kept .zeros-full) q
+      go (by-reading h (of-shape a it) q) =
+          let v = k .verdictOf (k .entriesOf (k .recordOf a)) in
+          answered-full v (whenAccepted v (k .recordOf a) (k .zeros)) (given v a) (q ∙ k .answer-is a)
+      go (by-reading h (not-of-shape n none it) q) = answered-full _ _ (kept .zeros-full) q

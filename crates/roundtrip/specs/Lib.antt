@@ -1,1 +1,2 @@
 pub mod NotOfShape
+pub mod NotTableShape

@@ -1,146 +1,132 @@
--- The rule of the printed table: each quantity from 1 to 1,000,000 gets the sample of its one band, and 0 gets 0.
--- One test that is computed over the whole table, and one law for any table that passes it. Assumes nothing.
-use Prim.Native.Nat.{ℕ, zero, suc, _≤_, _<_, suc-le-suc}
+-- Bands checked by rule 12, a line after the other: along a loop, what each band keeps that is accepted, and the highest quantity of the last.
+-- Assumes nothing.
+use Prim.Native.Nat.{ℕ, zero, suc, _+_, _-_, _≤_, _<_}
 use native.Mathlib.Nat.{le-of-suc-le-suc, not-suc-le-zero}
 use native.Mathlib.Omega.{arith}
-use mathlib.Core.Bool.{Bool, true, false, cond, _&&_, and-false}
+use mathlib.Core.Bool.{Bool, true, false, _&&_, false≢true}
 use mathlib.Core.List.{List, [], _∷_}
-use mathlib.Core.Path.{_≡_, refl, ap}
-use borrow.Author.Tests.{ltb-true, lt-ltb, le-leb, lt-leb, leb-true, leb-false}
-use lib.Dec.{leb, ltb, lit≤}
-use lib.ListN.{length, getD}
-use Rattle.lists.specs.Every.{every}
+use mathlib.Core.Path.{_≡_, refl, sym, ap, _∙_}
+use borrow.Author.Tests.{ltb-true, leb-true, lt-ltb, le-leb}
+use lib.Dec.{leb, ltb}
+use lib.ListN.{length, getD, take}
+use lib.Seq.{slice, getD-take, length-take-le}
+use Rattle.lists.specs.All.{All}
+use Rattle.lists.proofs.Slices.{slice-next, slice-done}
 use Rattle.lists.proofs.Tests.{both-left, both-right}
+use Rattle.refusal.specs.Checks.{unless}
+use Rattle.refusal.specs.declared.Rule.the-variants.{SamplingTable}
+use Rattle.refusal.specs.declared.Verdict.the-variants.{Accepted, Refused}
+use Rattle.refusal.proofs.Firsts.{only, all-passed, test-holds}
 use Rattle.sampling.specs.declared.Band.{Band}
-use Rattle.sampling.specs.Sampling.{band, printedBands, printedTable, sampleAbove, sampleOf}
-use Rattle.sampling.proofs.Scan.{zero-samples}
+use Rattle.sampling.specs.Sampling.{band}
+use Rattle.sampling.specs.Rules.{bandKeeps, bandsVerdict, lastHighest}
 
--- the highest quantities rise strictly
-abbrev pub rising : ℕ → List Band → Bool
-rising before [] = true
-rising before (b ∷ bs) = ltb before (b .highest) && rising (b .highest) bs
+-- a loop goes on past a band that keeps the rules, stops at one that breaks one, and ends with all accepted
+module _ (line : ℕ) (before : Band) (bs : List Band) (i n : ℕ) (more : i < n) (held : n ≤ length bs) where
+  abbrev here : Band
+  here = getD bs i (band 0 0)
 
-abbrev pub bandAt : List Band → ℕ → Band
-bandAt bs k = getD bs k (band 0 0)
+  pub bands-next : bandKeeps before here ≡ true → bandsVerdict line before (slice i n bs) ≡ bandsVerdict (line + 1) here (slice (i + 1) n bs)
+  unfolding bandsVerdict
+  bands-next e = ap (bandsVerdict line before) (slice-next bs i n (band 0 0) more held) ∙ rw e (only _)
 
--- the highest quantity before band k
-abbrev pub highestBefore : ℕ → List Band → ℕ → ℕ
-highestBefore before bs zero = before
-highestBefore before bs (suc k) = bandAt bs k .highest
+  pub bands-stop : bandKeeps before here ≡ false → bandsVerdict line before (slice i n bs) ≡ Refused SamplingTable line
+  unfolding bandsVerdict
+  bands-stop e = ap (bandsVerdict line before) (slice-next bs i n (band 0 0) more held) ∙ rw e
 
--- q lies in band k
-pub record LiesIn (before : ℕ) (bs : List Band) (k q : ℕ) : Type 0 where
-  pub there : k < length bs
-  pub above : highestBefore before bs k < q
-  pub within : q ≤ bandAt bs k .highest
+pub bands-done : (line : ℕ) (before : Band) (bs : List Band) (i n : ℕ) → i ≤ n → n ≤ i → bandsVerdict line before (slice i n bs) ≡ Accepted
+unfolding bandsVerdict
+bands-done line before bs i n h k = ap (bandsVerdict line before) (slice-done bs i n h k)
 
-module _ (before : ℕ) (b : Band) (bs : List Band) (rises : rising before (b ∷ bs) ≡ true) where
-  first-rises : before < b .highest
-  first-rises = ltb-true before (b .highest) (both-left (ltb before (b .highest)) (rising (b .highest) bs) rises)
+-- what a band keeps that may stand after the band `before`
+pub record Kept (before b : Band) : Type 0 where
+  pub rises : before .highest < b .highest
+  pub highest-most : b .highest ≤ 1000000
+  pub sample-least : 1 ≤ b .sample
+  pub sample-most : b .sample ≤ 99999
+  pub never-falls : before .sample ≤ b .sample
+  pub within-lowest : b .sample ≤ before .highest + 1
 
-  rest-rises : rising (b .highest) bs ≡ true
-  rest-rises = both-right (ltb before (b .highest)) (rising (b .highest) bs) rises
+band-kept : (before b : Band) → bandKeeps before b ≡ true → Kept before b
+unfolding bandKeeps
+band-kept before b e =
+    let rises = ltb (before .highest) (b .highest) in
+    let high = rises && leb (b .highest) 1000000 in
+    let some = high && leb 1 (b .sample) in
+    let small = some && leb (b .sample) 99999 in
+    let never-falls = small && leb (before .sample) (b .sample) in
+    let e₄ = both-left never-falls _ e in
+    let e₃ = both-left small _ e₄ in
+    let e₂ = both-left some _ e₃ in
+    let e₁ = both-left high _ e₂ in
+    record {
+      rises = ltb-true _ _ (both-left rises _ e₁);
+      highest-most = leb-true _ _ (both-right rises _ e₁);
+      sample-least = leb-true _ _ (both-right high _ e₂);
+      sample-most = leb-true _ _ (both-right some _ e₃);
+      never-falls = leb-true _ _ (both-right small _ e₄);
+      within-lowest = leb-true _ _ (both-right never-falls _ e);
+    }
 
-above-start : (before : ℕ) (bs : List Band) (k : ℕ) → rising before bs ≡ true → k < length bs → before ≤ highestBefore before bs k
-above-start before bs zero r h = omega arith
-above-start before [] (suc k) r h = absurd (not-suc-le-zero h)
-above-start before (b ∷ bs) (suc zero) r h = omega (arith, first-rises before b bs r)
-above-start before (b ∷ bs) (suc (suc k)) r h =
-    omega (arith, first-rises before b bs r, above-start (b .highest) bs (suc k) (rest-rises before b bs r) (le-of-suc-le-suc h))
+kept-band : (before b : Band) → Kept before b → bandKeeps before b ≡ true
+unfolding bandKeeps
+kept-band before b k =
+    rw (
+      lt-ltb _ _ (k .rises),
+      le-leb _ _ (k .highest-most),
+      le-leb _ _ (k .sample-least),
+      le-leb _ _ (k .sample-most),
+      le-leb _ _ (k .never-falls),
+      le-leb _ _ (k .within-lowest),
+    )
 
--- the bands before k are passed
-tail-lies : (before : ℕ) (b : Band) (bs : List Band) (k q : ℕ) → LiesIn before (b ∷ bs) (suc k) q → LiesIn (b .highest) bs k q
-tail-lies before b bs zero q l = record { there = le-of-suc-le-suc (l .there); above = l .above; within = l .within }
-tail-lies before b bs (suc k) q l = record { there = le-of-suc-le-suc (l .there); above = l .above; within = l .within }
-
-in-band : (before : ℕ) (bs : List Band) (k q : ℕ) → rising before bs ≡ true → LiesIn before bs k q
-    → sampleAbove before bs q ≡ bandAt bs k .sample
-unfolding sampleAbove
-in-band before [] k q r l = absurd (not-suc-le-zero (l .there))
-in-band before (b ∷ bs) zero q r l = rw (lt-ltb before q (l .above), le-leb q (b .highest) (l .within))
-in-band before (b ∷ bs) (suc k) q r l =
-    let t = tail-lies before b bs k q l in
-    let s = rest-rises before b bs r in
-    let past : b .highest < q = omega (arith, above-start (b .highest) bs k s (t .there), t .above) in
-    rw (lt-leb q (b .highest) past, and-false) (in-band (b .highest) bs k q s t)
-
--- a quantity lies in no second band
-one-band : (before : ℕ) (bs : List Band) (j k q : ℕ) → rising before bs ≡ true → LiesIn before bs j q → LiesIn before bs k q → j ≡ k
-one-band before [] j k q r l m = absurd (not-suc-le-zero (l .there))
-one-band before (b ∷ bs) zero zero q r l m = refl
-one-band before (b ∷ bs) zero (suc k) q r l m =
-    let t = tail-lies before b bs k q m in
-    absurd (omega (arith, l .within, above-start (b .highest) bs k (rest-rises before b bs r) (t .there), t .above))
-one-band before (b ∷ bs) (suc j) zero q r l m =
-    let t = tail-lies before b bs j q l in
-    absurd (omega (arith, m .within, above-start (b .highest) bs j (rest-rises before b bs r) (t .there), t .above))
-one-band before (b ∷ bs) (suc j) (suc k) q r l m =
-    ap suc (one-band (b .highest) bs j k q (rest-rises before b bs r) (tail-lies before b bs j q l) (tail-lies before b bs k q m))
-
--- a quantity that some band reaches lies in one
-later-lies : (before : ℕ) (b : Band) (bs : List Band) (k q : ℕ) → LiesIn (b .highest) bs k q → LiesIn before (b ∷ bs) (suc k) q
-later-lies before b bs zero q l = record { there = suc-le-suc (l .there); above = l .above; within = l .within }
-later-lies before b bs (suc k) q l = record { there = suc-le-suc (l .there); above = l .above; within = l .within }
-
-reached : (before : ℕ) (bs : List Band) (n q : ℕ) → n < length bs → before < q → q ≤ bandAt bs n .highest → (k : ℕ) × LiesIn before bs k q
-reached before [] n q h low high = absurd (not-suc-le-zero h)
-reached before (b ∷ bs) zero q h low high = (0, record { there = h; above = low; within = high })
-reached before (b ∷ bs) (suc n) q h low high = go (leb q (b .highest)) refl (λ past. reached (b .highest) bs n q (le-of-suc-le-suc h) past high)
+-- an answer that is true exactly where the band keeps all of that
+pub decides : (before b : Band) (answer : Bool) → (answer ≡ true → Kept before b) → (Kept before b → answer ≡ true) → answer ≡ bandKeeps before b
+decides before b true keeps kept = sym (kept-band before b (keeps refl))
+decides before b false keeps kept = go (bandKeeps before b) refl
   where
-    go : (t : Bool) → leb q (b .highest) ≡ t → (b .highest < q → (k : ℕ) × LiesIn (b .highest) bs k q)
-        → (k : ℕ) × LiesIn before (b ∷ bs) k q
-    go true p later = (0, record { there = omega arith; above = low; within = leb-true q (b .highest) p })
-    go false p later = let (k, l) = later (leb-false q (b .highest) p) in (suc k, later-lies before b bs k q l)
+    go : (t : Bool) → bandKeeps before b ≡ t → false ≡ t
+    go true e = kept (band-kept before b e)
+    go false e = refl
 
--- a quantity that no band reaches samples 0
-beyond : (before most q : ℕ) (bs : List Band) → every (λ b. leb (b .highest) most) bs ≡ true → most < q → sampleAbove before bs q ≡ 0
-unfolding sampleAbove every
-beyond before most q [] e h = refl
-beyond before most q (b ∷ bs) e h =
-    let rest = every (λ (b : Band). leb (b .highest) most) bs in
-    let low = leb-true (b .highest) most (both-left (leb (b .highest) most) rest e) in
-    let past : b .highest < q = omega arith in
-    rw (lt-leb q (b .highest) past, and-false) (beyond (b .highest) most q bs (both-right (leb (b .highest) most) rest e) h)
+pub breaks : (before b : Band) → (Kept before b → ⊥) → false ≡ bandKeeps before b
+breaks before b broken = decides before b false (λ e. absurd (false≢true e)) (λ k. absurd (broken k))
 
--- The rule.
+-- the first band on its line, and then the others
+module _ (line : ℕ) (before b : Band) (bs : List Band) (accepted : bandsVerdict line before (b ∷ bs) ≡ Accepted) where
+  lines : All (λ v. v ≡ Accepted) (unless (bandKeeps before b) SamplingTable line ∷ bandsVerdict (line + 1) b bs ∷ [])
+  unfolding bandsVerdict
+  lines = all-passed (_ ∷ _ ∷ []) accepted
 
-pub printed-rises : rising 0 printedBands ≡ true
-unfolding printedBands
-printed-rises = refl
+  first-kept : Kept before b
+  first-kept = band-kept before b (test-holds (bandKeeps before b) SamplingTable line (lines .0))
 
-pub every-quantity-lies : (q : ℕ) → 1 ≤ q → q ≤ 1000000 → (k : ℕ) × LiesIn 0 printedBands k q
-unfolding printedBands
-every-quantity-lies q low high = reached 0 printedBands 15 q (lit≤ tt) low high
+  later-lines : bandsVerdict (line + 1) b bs ≡ Accepted
+  later-lines = lines .1 .0
 
-pub no-second-band : (j k q : ℕ) → LiesIn 0 printedBands j q → LiesIn 0 printedBands k q → j ≡ k
-no-second-band j k q l m = one-band 0 printedBands j k q printed-rises l m
+-- at each index; the band before that with index k has index k in `before ∷ bs`
+pub kept-at : (line : ℕ) (before : Band) (bs : List Band) → bandsVerdict line before bs ≡ Accepted → (k : ℕ) → k < length bs
+    → Kept (getD (before ∷ bs) k (band 0 0)) (getD bs k (band 0 0))
+kept-at line before [] e k h = absurd (not-suc-le-zero h)
+kept-at line before (b ∷ bs) e zero h = first-kept line before b bs e
+kept-at line before (b ∷ bs) e (suc k) h = kept-at (line + 1) b bs (later-lines line before b bs e) k (le-of-suc-le-suc h)
 
-pub sample-in-band : (k q : ℕ) → LiesIn 0 printedBands k q → sampleOf printedTable q ≡ bandAt printedBands k .sample
-unfolding sampleOf
-sample-in-band k q l = in-band 0 printedBands k q printed-rises l
+-- the last band, or `before` where there is none
+pub last-at : (before : Band) (bs : List Band) → lastHighest (before .highest) bs ≡ getD (before ∷ bs) (length bs) (band 0 0) .highest
+unfolding lastHighest
+last-at before [] = refl
+last-at before (b ∷ bs) = last-at b bs
 
-pub zero-samples-zero : sampleOf printedTable 0 ≡ 0
-unfolding sampleOf
-zero-samples-zero = zero-samples 0 printedBands
+-- of the first n bands that a record holds
+pub last-held : (bs : List Band) (n : ℕ) → 0 < n → n ≤ length bs → lastHighest 0 (take n bs) ≡ getD bs (n - 1) (band 0 0) .highest
+last-held bs n some held =
+    let counted : length (take n bs) ≡ suc (n - 1) = omega (arith, length-take-le n bs held) in
+    last-at (band 0 0) (take n bs)
+    ∙ rw counted (ap (λ (b : Band). b .highest) (getD-take n bs (n - 1) (band 0 0) (omega arith)))
 
-pub beyond-samples-zero : (q : ℕ) → 1000000 < q → sampleOf printedTable q ≡ 0
-unfolding sampleOf printedBands every
-beyond-samples-zero q h = beyond 0 1000000 q printedBands refl h
-
--- and no sample of it is more than 99,999
-
-either-small : (t : Bool) (m n most : ℕ) → m ≤ most → n ≤ most → cond t m n ≤ most
-either-small true m n most h k = h
-either-small false m n most h k = k
-
-sample-small : (most before : ℕ) (bands : List Band) (q : ℕ) → every (λ b. leb (b .sample) most) bands ≡ true → sampleAbove before bands q ≤ most
-unfolding sampleAbove every
-sample-small most before [] q e = omega arith
-sample-small most before (b ∷ bs) q e =
-    let rest = every (λ (b : Band). leb (b .sample) most) bs in
-    either-small (ltb before q && leb q (b .highest)) (b .sample) (sampleAbove (b .highest) bs q) most
-    (leb-true (b .sample) most (both-left (leb (b .sample) most) rest e)) (sample-small most (b .highest) bs q (both-right (leb (b .sample) most) rest e))
-
-pub printed-small : (q : ℕ) → sampleOf printedTable q ≤ 99999
-unfolding sampleOf printedBands every
-printed-small q = sample-small 99999 0 printedBands q refl
+-- of accepted bands, at most 1,000,000
+pub last-most : (line : ℕ) (before : Band) (bs : List Band) → bandsVerdict line before bs ≡ Accepted → before .highest ≤ 1000000
+    → lastHighest (before .highest) bs ≤ 1000000
+unfolding lastHighest
+last-most line before [] e h = h
+last-most line before (b ∷ bs) e h = last-most (line + 1) b bs (later-lines line before b bs e) (first-kept line before b bs e .highest-most)

@@ -1,2 +1,4 @@
 pub mod Entries
 pub mod Sampling
+pub mod Rules
+pub mod Bands

@@ -1,4 +1,5 @@
-// How many blanks of an awarded quantity are sampled: the sampling table as a record, and the sample of a quantity.
+// How many blanks of an awarded quantity are sampled: the sampling table as a record, and the sample of a quantity. What makes a record a
+// table, rule 12 of document 02, stands in specs/; `tablerules` checks it.
 ghost use mathlib.Core.Path.{_≡_};
 ghost use Prim.Native.Nat.{min};
 ghost use Rattle.sampling.specs.Entries.{tableEntries};
@@ -14,7 +15,8 @@ pub struct Band {
     pub sample: u64,
 }
 
-// A sampling table: the first `count` of the bands; the others are ignored.
+// A sampling table: the first `count` of the bands; the others are ignored. A count may say that there were more bands than the record
+// holds: such a table is refused.
 pub struct Table {
     pub count: usize,
     pub bands: [Band; 16],
@@ -41,7 +43,7 @@ pub fn held(count: usize) -> usize
 }
 
 // The sample of a quantity by a table: that of the band in which it lies. Quantity 0 samples 0, and so does one that lies in no band, which
-// no award has.
+// no award has with a table that passes.
 pub fn sample(table: Table, quantity: Blanks) -> Blanks
     ensures { λ r. ⌜ r .0 ≡ sampleOf (tableEntries table) (quantity .0) ⌝ }
 {

@@ -18,6 +18,7 @@ pub enum Word {
     CloseRow,
     Demand,
     Bid,
+    Band,
     None,
     EndLine,
 }
@@ -43,6 +44,7 @@ pub fn put(out: &mut [u8], at: usize, word: Word) -> usize
         Word::CloseRow => printer::put_word(out, at, b"))\n"),
         Word::Demand => printer::put_word(out, at, b"(demand "),
         Word::Bid => printer::put_word(out, at, b"(bid "),
+        Word::Band => printer::put_word(out, at, b"(band "),
         Word::None => printer::put_word(out, at, b"none"),
         Word::EndLine => printer::put_word(out, at, b"\n"),
     }

@@ -1,0 +1,3 @@
+pub mod TableForm
+pub mod Records
+pub mod Accepted

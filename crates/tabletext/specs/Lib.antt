@@ -1,0 +1,5 @@
+pub mod TableText
+pub mod WellFormed
+pub mod TableForm
+pub mod Record
+pub mod Arrays
