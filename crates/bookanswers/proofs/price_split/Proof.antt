@@ -8,7 +8,7 @@ use Rattle.bookreader.specs.declared.BookRead.{BookRead}
 use Rattle.split.specs.declared.SplitPrice.{SplitPrice}
 use Rattle.split.specs.Split.{splitOf, refusedSplit}
 use Rattle.bookanswers.specs.BookAnswers.{splitText}
-use Rattle.bookanswers.proofs.Answers.{if-refused, if-accepted}
+use Rattle.output.proofs.Cases.{if-refused, if-accepted}
 use Rattle.bookanswers.proofs.price_split.Statement.{statement}
 use Rattle.bookanswers.proofs.price_split.Tie as tie
 

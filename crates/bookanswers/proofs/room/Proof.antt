@@ -6,7 +6,7 @@ use Rattle.book.specs.Entries.{bookEntries}
 use Rattle.book.specs.Room.{roomOf}
 use Rattle.bookreader.specs.declared.BookRead.{BookRead}
 use Rattle.bookanswers.specs.BookAnswers.{roomText}
-use Rattle.bookanswers.proofs.Answers.{if-refused, if-accepted}
+use Rattle.output.proofs.Cases.{if-refused, if-accepted}
 use Rattle.bookanswers.proofs.room.Statement.{statement}
 use Rattle.bookanswers.proofs.room.Tie as tie
 

@@ -9,7 +9,7 @@ use Rattle.booktext.specs.BookText.{bookText}
 use Rattle.bookreader.specs.declared.BookRead.{BookRead}
 use Rattle.roundtrip.proofs.Back.{book-accepted}
 use Rattle.bookanswers.specs.BookAnswers.{bookWritten, bookOutput}
-use Rattle.bookanswers.proofs.Answers.{none-written, text-written}
+use Rattle.output.proofs.Cases.{none-written, text-written}
 use Rattle.bookanswers.proofs.write.Statement.{statement}
 use Rattle.bookanswers.proofs.write.Tie as tie
 

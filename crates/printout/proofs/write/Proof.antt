@@ -8,7 +8,7 @@ use Rattle.clearing.specs.declared.Clearing.{Clearing}
 use Rattle.awardwriter.specs.declared.Layout.{Layout}
 use Rattle.awardwriter.specs.Layout.{layoutText}
 use Rattle.tender.specs.FromText.{printedAs}
-use Rattle.bookanswers.proofs.Answers.{if-refused, if-accepted, same-text}
+use Rattle.output.proofs.Cases.{if-refused, if-accepted, same-text}
 use Rattle.printout.proofs.write.Statement.{statement}
 use Rattle.printout.proofs.write.Tie as tie
 

@@ -7,7 +7,7 @@ use Rattle.sampling.specs.Entries.{TableEntries}
 use Rattle.clearing.specs.declared.Clearing.{Clearing}
 use Rattle.clearing.specs.Clearing.{clearOf, refusedClearing}
 use Rattle.tender.specs.FromText.{clearText}
-use Rattle.bookanswers.proofs.Answers.{if-refused, if-accepted}
+use Rattle.output.proofs.Cases.{if-refused, if-accepted}
 use Rattle.tender.proofs.awards.clear_sampled.Statement.{statement}
 use Rattle.tender.proofs.awards.clear_sampled.Tie as tie
 

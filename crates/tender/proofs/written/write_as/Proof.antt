@@ -7,7 +7,7 @@ use Rattle.clearing.specs.declared.Clearing.{Clearing}
 use Rattle.awardwriter.specs.declared.Layout.{Layout}
 use Rattle.awardwriter.specs.Layout.{layoutText}
 use Rattle.tender.specs.FromText.{writtenAs, outputAs}
-use Rattle.bookanswers.proofs.Answers.{none-written, text-written}
+use Rattle.output.proofs.Cases.{none-written, text-written}
 use Rattle.tender.proofs.written.write_as.Statement.{statement}
 use Rattle.tender.proofs.written.write_as.Tie as tie
 
