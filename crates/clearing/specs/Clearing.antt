@@ -12,6 +12,7 @@ use Rattle.book.specs.declared.Book.{Book}
 use Rattle.book.specs.Entries.{BidEntries, BookEntries, bookEntries}
 use Rattle.book.specs.Rules.{bookVerdict}
 use Rattle.sampling.specs.Entries.{TableEntries}
+use Rattle.sampling.specs.Rules.{tableVerdict}
 use Rattle.divisions.specs.Award.{Priced, awardOfBook}
 use Rattle.comparison.specs.declared.MaybeDivision.{MaybeDivision}
 use Rattle.comparison.specs.Records.{divisionIn}
@@ -47,6 +48,10 @@ clearedBook table b (some award) = record { verdict = Accepted; award = awardRec
 -- of every book, sampled by a table
 unfoldable pub clearOf : TableEntries → BookEntries → Clearing
 clearOf table b = whenAccepted (bookVerdict b) (clearedBook table b (awardOfBook b)) (refusedClearing (bookVerdict b))
+
+-- of every table and every book: the table's refusals come before all of the book's
+unfoldable pub clearByTable : TableEntries → BookEntries → Clearing
+clearByTable table b = whenAccepted (tableVerdict table) (clearOf table b) (refusedClearing (tableVerdict table))
 
 -- what `rows` asks: an accepted book, and its award
 pub record BookAward (book : Book) (award : MaybeDivision) : Type 0 where

@@ -7,7 +7,7 @@ ghost use Rattle.sampling.specs.Entries.{tableEntries};
 ghost use Rattle.sampling.specs.Sampling.{printedTable};
 ghost use Rattle.comparison.specs.Records.{blanksIn};
 ghost use Rattle.award.specs.Award.{noRow};
-ghost use Rattle.clearing.specs.Clearing.{rowsFrom, refusedClearing, clearOf, BookAward};
+ghost use Rattle.clearing.specs.Clearing.{rowsFrom, refusedClearing, clearOf, clearByTable, BookAward};
 use award::Award;
 use award::Row;
 use book::Book;
@@ -83,5 +83,16 @@ pub fn clear(book: Book) -> Clearing
     ensures { λ r. ⌜ r ≡ clearOf printedTable (bookEntries book) ⌝ }
 {
     let table = sampling::printed();
+    clear_sampled(table, book)
+}
+
+// Clears any record, sampled by any table: refused by rule 12 as `tablerules::check` refuses the table, then as `clear` refuses the book.
+pub fn clear_by_table(table: Table, book: Book) -> Clearing
+    ensures { λ r. ⌜ r ≡ clearByTable (tableEntries table) (bookEntries book) ⌝ }
+{
+    let verdict = tablerules::check(table);
+    if let Verdict::Refused(_, _) = verdict {
+        return refused(verdict);
+    }
     clear_sampled(table, book)
 }

@@ -6,16 +6,22 @@ use Rattle.output.specs.declared.TextWritten.{TextWritten}
 use Rattle.output.specs.Writing.{writtenOf, outputAfter}
 use Rattle.sampling.specs.Entries.{TableEntries}
 use Rattle.sampling.specs.Sampling.{printedTable}
+use Rattle.tablereader.specs.Reading.{readTableOf}
 use Rattle.award.specs.declared.Award.{Award}
 use Rattle.sheettext.specs.Sheet.{sheetText, refusalText}
 use Rattle.pagetext.specs.Page.{pageText}
 use Rattle.clearing.specs.declared.Clearing.{Clearing}
 use Rattle.clearing.specs.Clearing.{clearOf, refusedClearing}
+use Rattle.tableanswers.specs.TableAnswers.{tableIn}
 use Rattle.bookanswers.specs.BookAnswers.{answerOf}
 
 -- the award of the book, sampled by a table: refused by 1, 2, 3 to 8, then 9
 unfoldable pub clearText : TableEntries → List ℕ → Clearing
 clearText table t = answerOf (clearOf table) refusedClearing t
+
+-- by a table that comes as text: the table's refusals, by 1, 2 and 12, come before all of the book's
+unfoldable pub clearedByTable : List ℕ → List ℕ → Clearing
+clearedByTable s t = whenAccepted (readTableOf s .verdict) (clearText (tableIn s) t) (refusedClearing (readTableOf s .verdict))
 
 -- ---- what was cleared, written as a text, of which `text` says what it is: refused as it was cleared, then by 10
 

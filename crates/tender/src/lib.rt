@@ -1,13 +1,19 @@
 // What the society's mints and the tender site ask for, from the text of a bid book: the award, its sheet and its page, the book written out
-// again, the room figure, and the price of a proposed split. Each is refused first as reading refuses the text.
+// again, the room figure, and the price of a proposed split. Each is refused first as reading refuses the text. The award, the sheet and the
+// page are sampled by the printed table, or by a table that comes as text before the book's; its refusals come first.
 
-// The modules are private: the functions named here are the entries. Those of `bookanswers` clear nothing.
+// The modules are private: the functions named here are the entries. Those of `bookanswers` and `tableanswers` clear nothing.
 mod awards;
 mod written;
 
 pub use awards::clear;
+pub use awards::clear_by_table;
 pub use bookanswers::price_split;
 pub use bookanswers::room;
 pub use bookanswers::write;
+pub use tableanswers::printed_table;
+pub use tableanswers::write_table;
 pub use written::page;
+pub use written::page_by_table;
 pub use written::sheet;
+pub use written::sheet_by_table;
