@@ -334,6 +334,11 @@ EXCEPTIONS = [
         "booktext.proofs.BookForm.book-reading",
         "`readOf` answers by the reading of a text that this proof gives; every other reading gives the same (`any-reading`)",
     ),
+    (
+        "crates/tablereader/specs/Reading.antt",
+        "tabletext.proofs.TableForm.table-reading",
+        "`readTableOf` likewise, for the text of a sampling table",
+    ),
 ]
 # x.proofs.Y.{a, b}, or x.proofs.Y as a whole; the crate itself stands with a word more before it (x·proofs.proofs.Y).
 OF_PROOFS = re.compile(r"(?:Rattle·)?(?P<module>[\w·]+\.proofs(?:\.[\w-]+)*)(?:\.\{(?P<names>[^}]*)\})?")
