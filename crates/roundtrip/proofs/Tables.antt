@@ -2,15 +2,19 @@
 -- same text, and what the answer tells of a text; by the laws of any kind of text (`textreading`, `Texts`). Assumes nothing.
 use Prim.Native.Nat.{ℕ, suc, _≤_, _<_}
 use native.Mathlib.Omega.{arith}
-use mathlib.Core.List.{List}
-use mathlib.Core.Path.{_≡_, refl, sym, ap, _∙_}
+use mathlib.Core.List.{List, []}
+use mathlib.Core.Path.{_≡_, refl, sym, ap, _∙_, subst}
 use lib.ListN.{length, take}
 use Rattle.refusal.specs.Number.{ruleNumber}
-use Rattle.refusal.specs.declared.Rule.the-variants.{Shape}
+use Rattle.refusal.specs.declared.Rule.{Rule}
+use Rattle.refusal.specs.declared.Rule.the-variants.{TextLength, Shape, SamplingTable}
+use Rattle.refusal.specs.declared.Verdict.{Verdict}
 use Rattle.refusal.specs.declared.Verdict.the-variants.{Accepted, Refused}
+use Rattle.refusal.proofs.Refusals.{RefusedBy}
 use Rattle.forms.specs.Shape.{TextOf, Begins}
+use Rattle.forms.specs.Word.{word-parse}
 use Rattle.forms.proofs.Whole.{one-meaning}
-use Rattle.textreading.proofs.Answers.{read-other}
+use Rattle.textreading.proofs.Answers.{read-other, read-stopped}
 use Rattle.textreading.proofs.Told as Told
 use Rattle.printer.specs.Written.{written}
 use Rattle.sampling.specs.declared.Table.{Table}
@@ -18,7 +22,7 @@ use Rattle.sampling.specs.Entries.{TableEntries, tableEntries, SameTable}
 use Rattle.sampling.specs.Sampling.{printedBands, printedTable}
 use Rattle.sampling.specs.Rules.{tableVerdict}
 use Rattle.tablerules.proofs.Passing.{printed-passes}
-use Rattle.tablerules.proofs.Refusals.{refused-by-12}
+use Rattle.tablerules.proofs.Refusals.{refused-by-12, record-line}
 use Rattle.tabletext.specs.TableText.{tableText}
 use Rattle.tabletext.specs.WellFormed.{WellFormedTable}
 use Rattle.tabletext.specs.Record.{tableRecord}
@@ -88,6 +92,23 @@ table-text-accepted t r full passes = Any.text-accepted kept r full passes t
 not-shape : (e : TableEntries) (n : ℕ) → tableVerdict e ≡ Refused Shape n → ⊥
 not-shape e n q = omega (arith, ap ruleNumber (refused-by-12 e Shape n q .0))
 
+-- refused by rule 1, 2 or 12, and then all zeros
+pub table-refused-by : (P : Rule → ℕ → Type 0) → P TextLength 4096 → ((n : ℕ) → n ≤ 4096 → P Shape n)
+    → ((line : ℕ) → 1 ≤ line → line ≤ 17 → P SamplingTable line)
+    → (t : List ℕ)
+    → RefusedBy P (readTableOf t .verdict)
+table-refused-by P long other line t = Told.refused-by tables t P long other (λ e. go e (tableVerdict (tableEntries (tableRecord e))) refl)
+  where
+    go : (e : TableEntries) (v : Verdict) → tableVerdict (tableEntries (tableRecord e)) ≡ v → RefusedBy P v
+    go e Accepted q = tt
+    go e (Refused rule n) q =
+        let (by-12, low, _) = refused-by-12 (tableEntries (tableRecord e)) rule n q in
+        let high = record-line (tableRecord e) (record-full e) rule n q in
+        subst (λ (r : Rule). P r n) (sym by-12) (line n low high)
+
+pub table-refused-zeros : (t : List ℕ) (rule : Rule) (place : ℕ) → readTableOf t .verdict ≡ Refused rule place → readTableOf t ≡ refusedTable rule place
+table-refused-zeros = Told.refused-answer tables
+
 -- refusal 2 tells that the text is not of the shape, with the longest beginning, and the reverse
 pub table-refused-place : (t : List ℕ) (n : ℕ) → readTableOf t .verdict ≡ Refused Shape n → NotTableShape t n
 table-refused-place t n e =
@@ -103,6 +124,11 @@ table-first-bytes t n s = s .longest .begins
 
 pub table-one-byte-more : (t : List ℕ) (n : ℕ) → NotTableShape t n → n < length t → Begins WellFormedTable tableText (take (suc n) t) → ⊥
 table-one-byte-more t n s h b = omega (arith, s .longest .longest (suc n) h b)
+
+-- a text without a band is refused at its beginning
+pub no-bands : readTableOf [] ≡ refusedTable Shape 0
+unfolding word-parse
+no-bands = sym (read-stopped tables [] (omega arith) 0 (record { finds = refl; from = omega arith; to = omega arith }))
 
 -- a text means one table
 pub one-table : (t : List ℕ) (a b : TableEntries) → TextOf WellFormedTable tableText t a → TextOf WellFormedTable tableText t b → a ≡ b

@@ -7,12 +7,14 @@ use mathlib.Core.Path.{_≡_, refl, sym, ap, _∙_, subst}
 use borrow.Author.Tests.{leb-true, leb-false}
 use lib.Dec.{leb}
 use lib.ListN.{length}
+use Rattle.refusal.specs.Checks.{whenAccepted}
 use Rattle.refusal.specs.Number.{numberOf}
 use Rattle.refusal.specs.declared.Rule.{Rule}
 use Rattle.refusal.specs.declared.Rule.the-variants.{TextLength, Shape}
 use Rattle.refusal.specs.declared.Verdict.{Verdict}
 use Rattle.refusal.specs.declared.Verdict.the-variants.{Accepted, Refused}
 use Rattle.refusal.proofs.Firsts.{refused-not}
+use Rattle.refusal.proofs.Refusals.{RefusedBy}
 use Rattle.forms.specs.Shape.{TextOf, Longest, of-shape, not-of-shape, answer}
 use Rattle.textreading.proofs.Kind.{Kind, refusedBy, Whole, answered}
 use Rattle.textreading.proofs.Answers.{any-reading, read-long, accepted-answer}
@@ -55,6 +57,38 @@ module _ {A R C : Type 0} (k : Kind A R C) where
             let f = entries-say a Accepted q e in
             (a, record { short = h; text = it; accepted = f; read = q ∙ accepted-answer k a f })
         go (by-reading h (not-of-shape n none it) q) = refused-not (refused-says Shape n Accepted q e)
+
+    -- with a refusal the record is all zeros
+    pub refused-answer : (rule : Rule) (place : ℕ) → k .verdictIn (k .readOf t) ≡ Refused rule place → k .readOf t ≡ refusedBy k rule place
+    unfolding answer
+    refused-answer rule place e = go read-answered
+      where
+        by-verdict : (r : R) (v : Verdict) → v ≡ Refused rule place → k .answering v (whenAccepted v r (k .zeros)) ≡ refusedBy k rule place
+        by-verdict r v f = ap (λ (w : Verdict). k .answering w (whenAccepted w r (k .zeros))) f
+
+        go : Answered t → k .readOf t ≡ refusedBy k rule place
+        go (by-length h q) = q ∙ ap (λ (v : Verdict). k .answering v (k .zeros)) (refused-says TextLength 4096 (Refused rule place) q e)
+        go (by-reading h (of-shape a it) q) =
+            q ∙ k .answer-is a ∙ by-verdict (k .recordOf a) (k .verdictOf (k .entriesOf (k .recordOf a))) (entries-say a (Refused rule place) q e)
+        go (by-reading h (not-of-shape n none it) q) =
+            q ∙ ap (λ (v : Verdict). k .answering v (k .zeros)) (refused-says Shape n (Refused rule place) q e)
+
+    -- what holds of the refusals of texts and of records holds of the refusal that is answered
+    pub refused-by : (P : Rule → ℕ → Type 0) → P TextLength 4096 → ((n : ℕ) → n ≤ 4096 → P Shape n)
+        → ((a : A) → RefusedBy P (k .verdictOf (k .entriesOf (k .recordOf a))))
+        → RefusedBy P (k .verdictIn (k .readOf t))
+    unfolding answer
+    refused-by P long other records = go read-answered
+      where
+        told : (v : Verdict) (r : R) → k .readOf t ≡ k .answering v r → RefusedBy P v → RefusedBy P (k .verdictIn (k .readOf t))
+        told v r q h = subst (RefusedBy P) (sym (ap (k .verdictIn) q ∙ k .verdict-in v r)) h
+
+        go : Answered t → RefusedBy P (k .verdictIn (k .readOf t))
+        go (by-length h q) = told (Refused TextLength 4096) (k .zeros) q long
+        go (by-reading h (of-shape a it) q) =
+            let v = k .verdictOf (k .entriesOf (k .recordOf a)) in
+            told v (whenAccepted v (k .recordOf a) (k .zeros)) (q ∙ k .answer-is a) (records a)
+        go (by-reading h (not-of-shape n none it) q) = told (Refused Shape n) (k .zeros) q (other n (omega (arith, it .within)))
 
     -- where no rule for records is the rule for the shape: refused by it, the text is not of the shape, and the place is the longest beginning
     pub refused-place : ((a : A) (n : ℕ) → k .verdictOf a ≡ Refused Shape n → ⊥) → (n : ℕ) → k .verdictIn (k .readOf t) ≡ Refused Shape n
