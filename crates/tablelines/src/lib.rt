@@ -1,8 +1,8 @@
 // The lines of a sampling table, parsed into a record.
 ghost use Prim.Native.Nat.{_≤_};
 ghost use lib.ListN.{length};
-ghost use Rattle.tabletext.specs.TableForm as Form;
 ghost use Rattle.scanner.specs.Scans.{Scans};
+ghost use Rattle.tabletext.specs.TableForm as Form;
 ghost use Rattle.tablelines.specs.Parses.{ParsesTable};
 
 mod filled;

@@ -1,6 +1,6 @@
 -- The texts of the parts, one after the other, are the line of the band.
-use Rattle.tabletext.specs.TableText.{bandText}
 use Rattle.lines.proofs.Together.{together}
+use Rattle.tabletext.specs.TableText.{bandText}
 use Rattle.tablewriter.proofs.bands.band_line.Statement.{statement}
 use Rattle.tablewriter.proofs.bands.band_line.Tie as tie
 
