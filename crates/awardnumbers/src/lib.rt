@@ -1,6 +1,7 @@
 // The award of a text as numbers: what C gets.
 ghost use mathlib.Core.Path.{_≡_};
 ghost use lib.ListN.{length};
+ghost use Rattle.tender.specs.FromText.{clearedByTable};
 ghost use Rattle.awardnumbers.specs.Numbers.{numbersAnswer, numbersOutput, FewRows, awardAnswer, awardOutput};
 use clearing::Clearing;
 use refusal::Rule;
@@ -53,5 +54,14 @@ pub fn award(text: &[u8], rows: &mut [u64]) -> AwardNumbers
     ensures { λ _. ⌜ now (rows .exit) ≡ awardOutput (now (text .entry)) (now (rows .entry)) ⌝ }
 {
     let cleared = tender::clear(text);
+    numbers(cleared, rows)
+}
+
+// The award of a text's book, sampled by the table of a text.
+pub fn award_by_table(table: &[u8], text: &[u8], rows: &mut [u64]) -> AwardNumbers
+    ensures { λ r. ⌜ r ≡ numbersAnswer (clearedByTable (now (table .entry)) (now (text .entry))) (length (now (rows .entry))) ⌝ }
+    ensures { λ _. ⌜ now (rows .exit) ≡ numbersOutput (clearedByTable (now (table .entry)) (now (text .entry))) (now (rows .entry)) ⌝ }
+{
+    let cleared = tender::clear_by_table(table, text);
     numbers(cleared, rows)
 }

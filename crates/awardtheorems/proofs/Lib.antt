@@ -5,3 +5,4 @@ pub mod Counts
 pub mod Cleared
 pub mod Costs
 pub mod Amounts
+pub mod Samples

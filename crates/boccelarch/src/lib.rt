@@ -8,6 +8,15 @@ ghost use Rattle.bookanswers.specs.BookAnswers.{bookWritten, bookOutput, roomTe
 ghost use Rattle.tender.specs.FromText.{sheetWritten, sheetOutput, pageWritten, pageOutput};
 ghost use Rattle.awardnumbers.specs.Numbers.{awardVerdict, awardTotal, awardCount, awardOutput};
 
+// Those with a sampling table.
+mod tables;
+
+pub use tables::boccelarch_award_by_table;
+pub use tables::boccelarch_page_by_table;
+pub use tables::boccelarch_printed_table;
+pub use tables::boccelarch_sheet_by_table;
+pub use tables::boccelarch_write_table;
+
 // The award sheet of a book, and its length.
 #[no_mangle]
 pub extern "C" fn boccelarch_sheet(

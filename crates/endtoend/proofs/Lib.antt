@@ -7,3 +7,6 @@ pub mod LongEnough
 pub mod Fits
 pub mod Prints
 pub mod Exactly
+pub mod Loaded
+pub mod ByTable
+pub mod FitsByTable

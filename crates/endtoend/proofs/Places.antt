@@ -31,7 +31,8 @@ use Rattle.clearing.proofs.Answers.{no-division, division}
 use Rattle.bookanswers.specs.BookAnswers.{bookOf}
 use Rattle.tender.specs.FromText.{clearText}
 
-abbrev OfText : Rule → ℕ → Type 0
+-- another rule, at such a place
+abbrev pub OfText : Rule → ℕ → Type 0
 OfText rule place = Other OutputLength rule × (place ≤ 4096)
 
 -- accepted, or refused before the output is looked at

@@ -1,3 +1,4 @@
 pub mod TheAward
 pub mod Outcome
+pub mod ByTable
 pub mod Shown

@@ -23,11 +23,12 @@ use Rattle.pagetext.proofs.Page.{lines-length, page-lines}
 use Rattle.pagetext.proofs.ReadBack.{award-back}
 use Rattle.clearing.specs.Clearing.{clearOf}
 use Rattle.awardtheorems.proofs.Amounts.{SmallSamples}
-use Rattle.tender.specs.FromText.{clearText, writtenAs, outputAs, clearedByPrinted, sheetWritten, pageWritten, pageOutput, pagePrints}
+use Rattle.tender.specs.FromText.{clearText, clearedByTable, writtenAs, outputAs, printedAs, clearedByPrinted, sheetWritten, pageWritten, pageOutput, pagePrints}
 use Rattle.endtoend.proofs.ClearedText.{of-records}
 use Rattle.endtoend.proofs.Fits.{few, printed-small, sheet-verdict}
 use Rattle.endtoend.proofs.Places.{before-output}
 use Rattle.endtoend.proofs.LongEnough.{printed-fits, same-verdict, never-10}
+use Rattle.endtoend.proofs.FitsByTable.{before-by-table, fits-by-table}
 use Rattle.pagetheorems.proofs.Fits.{page-fits, none-negative}
 use Rattle.pagetheorems.proofs.Rows.{complete}
 
@@ -88,3 +89,10 @@ module _ (t out : List ℕ) (accepted : pageWritten t (length out) .verdict ≡ 
       let page = pageText (c .award) in
       ap awardIn (text-written (c .verdict) page out accepted)
       ∙ text-page printedTable printed-small t (accepted-before (c .verdict) page out accepted) .read
+
+-- and by a table that comes as text
+module _ (s t : List ℕ) where
+  pub page-prints-fit-by-table : length (printedAs pageText (clearedByTable s t)) ≤ 585
+  page-prints-fit-by-table =
+      printed-fits pageText 585 (clearedByTable s t) (before-by-table s t)
+      (fits-by-table s t pageText 585 (λ table small e. text-page table small t e .short)) (omega arith)

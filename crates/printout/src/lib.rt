@@ -6,7 +6,7 @@ ghost use lib.ListN.{length, take};
 ghost use Rattle.refusal.specs.declared.Verdict.the-variants.{Accepted};
 ghost use Rattle.output.specs.Writing.{writtenOf, outputAfter};
 ghost use Rattle.awardwriter.specs.Layout.{layoutText};
-ghost use Rattle.tender.specs.FromText.{printedAs, clearedByPrinted};
+ghost use Rattle.tender.specs.FromText.{clearedByTable, printedAs, clearedByPrinted};
 use awardwriter::Layout;
 use clearing::Clearing;
 use output::TextWritten;
@@ -25,13 +25,25 @@ fn write(layout: Layout, cleared: Clearing, out: &mut [u8]) -> TextWritten
     awardwriter::write(layout, award, out)
 }
 
-// Puts what is to be printed for a text at the beginning of the output, and answers how many bytes it has: 600 bytes hold it.
+// Puts what is to be printed for a text, sampled by the printed table, at the beginning of the output, and answers how many bytes it has: 600
+// bytes hold it.
 pub fn print(layout: Layout, text: &[u8], out: &mut [u8]) -> usize
     requires { ⌜ length (now out) ≡ 600 ⌝ }
     ensures { λ r. ⌜ take r (now (out .exit)) ≡ printedAs (layoutText layout) (clearedByPrinted (now (text .entry))) ⌝ }
     ensures { λ r. ⌜ r ≤ length (now (out .exit)) ⌝ }
 {
     let cleared = tender::clear(text);
+    let written = write(layout, cleared, out);
+    written.bytes as usize
+}
+
+// The same, sampled by the table of a text.
+pub fn print_by_table(layout: Layout, table: &[u8], text: &[u8], out: &mut [u8]) -> usize
+    requires { ⌜ length (now out) ≡ 600 ⌝ }
+    ensures { λ r. ⌜ take r (now (out .exit)) ≡ printedAs (layoutText layout) (clearedByTable (now (table .entry)) (now (text .entry))) ⌝ }
+    ensures { λ r. ⌜ r ≤ length (now (out .exit)) ⌝ }
+{
+    let cleared = tender::clear_by_table(table, text);
     let written = write(layout, cleared, out);
     written.bytes as usize
 }

@@ -135,7 +135,7 @@ pub one-table : (t : List ℕ) (a b : TableEntries) → TextOf WellFormedTable t
 one-table = one-meaning table-laws
 
 -- the printed table is what its text is read as
-printed-entries : tableEntries (tableRecord printedTable) ≡ printedTable
+pub printed-entries : tableEntries (tableRecord printedTable) ≡ printedTable
 unfolding tableRecord printedBands
 printed-entries = refl
 

@@ -1,6 +1,6 @@
 -- 600 bytes hold what is printed for every text, so that all of it is written.
 use borrow.Author.Needs.{needs}
-use Rattle.printout.proofs.Printed.{all-printed}
+use Rattle.printout.proofs.Printed.{fits, all-printed}
 use Rattle.printout.proofs.print.Statement.{statement}
 use Rattle.printout.proofs.print.Tie as tie
 
@@ -9,7 +9,7 @@ returns c =
     let p = c .before .before .write in
     let cleared = c .before .before .before .before .clear in
     let s = c .before .before .before .before .before .before .before in
-    all-printed (s .args .layout) (s .args .text .now) (s .args .out .now) (s .pre) (cleared .ensures) (p .result) (p .last .1 .1 .0) (p .kept .1 .1 .0) (p .ensures)
+    all-printed (s .args .layout) (s .args .out .now) (s .pre) (cleared .ensures) (fits (s .args .layout) (s .args .text .now)) (p .result) (p .last .1 .1 .0) (p .kept .1 .1 .0) (p .ensures)
 
 pub print-spec : {M : Type 1} → statement M
 print-spec = tie.close (tie.spec (λ c κs. search needs) (λ c κs. search needs) (λ c. search needs) returns)

@@ -1,0 +1,12 @@
+-- What `tender::printed_table` answers is handed on.
+use borrow.Author.Needs.{needs}
+use Rattle.boccelarch.proofs.Given.{text-given}
+use Rattle.boccelarch.proofs.tables.boccelarch_printed_table.Statement.{statement}
+use Rattle.boccelarch.proofs.tables.boccelarch_printed_table.Tie as tie
+
+returns : tie.Need-returns
+returns c = text-given (c .before .before .before .before .printed-table .ensures) (c .number .ensures) (c .before .place .ensures)
+
+pub boccelarch-printed-table-spec : {M : Type 1} → statement M
+boccelarch-printed-table-spec =
+    tie.close (tie.spec (λ c κs. search needs) (λ c κs. search needs) (λ c κs. search needs) (λ c. search needs) returns)
