@@ -75,12 +75,16 @@ struct output {
     uint8_t out[BOCCELARCH_TEXT_BYTES];
 };
 
+struct award {
+    uint64_t number, place, total, count, rows[BOCCELARCH_AWARD_NUMBERS];
+};
+
 struct answers {
     const struct text *book;
     struct output sheet, page, written;
-    struct {
-        uint64_t number, place, total, count, rows[BOCCELARCH_AWARD_NUMBERS];
-    } award;
+    struct award award;
+    struct output table, table_written, sheet_by_table, page_by_table; /* the printed table, and the answers by it */
+    struct award award_by_table;
     struct {
         uint64_t number, place, bytes;
     } room;
@@ -102,6 +106,28 @@ static void call_output(output_entry *entry, const struct text *book, size_t roo
     output->number = entry((const uint8_t *)book->bytes, book->length, output->out, room, &output->place, &output->bytes);
 }
 
+typedef uint64_t by_table_entry(const uint8_t *, size_t, const uint8_t *, size_t, uint8_t *, size_t, uint64_t *, uint64_t *);
+
+static void call_by_table(by_table_entry *entry, const struct answers *a, size_t room, struct output *output)
+{
+    output->number = entry(a->table.out, a->table.bytes, (const uint8_t *)a->book->bytes, a->book->length, output->out, room,
+                           &output->place, &output->bytes);
+}
+
+/* The entries that have to do with a table: the printed one is taken, written again and used. */
+static void call_table_entries(struct answers *a)
+{
+    struct award *award = &a->award_by_table;
+
+    a->table.number = boccelarch_printed_table(a->table.out, BOCCELARCH_TABLE_BYTES, &a->table.place, &a->table.bytes);
+    a->table_written.number = boccelarch_write_table(a->table.out, a->table.bytes, a->table_written.out, BOCCELARCH_TABLE_BYTES,
+                                                     &a->table_written.place, &a->table_written.bytes);
+    call_by_table(boccelarch_sheet_by_table, a, BOCCELARCH_SHEET_BYTES, &a->sheet_by_table);
+    call_by_table(boccelarch_page_by_table, a, BOCCELARCH_PAGE_BYTES, &a->page_by_table);
+    award->number = boccelarch_award_by_table(a->table.out, a->table.bytes, (const uint8_t *)a->book->bytes, a->book->length, award->rows,
+                                              BOCCELARCH_AWARD_NUMBERS, &award->place, &award->total, &award->count);
+}
+
 /* For pthread_create. Everything that is lent lies outside of the thread's stack. */
 static void *call_entries(void *answers)
 {
@@ -119,6 +145,7 @@ static void *call_entries(void *answers)
     for (bid = 0; bid < BIDS; bid++)
         a->split.quantities[bid] = in_award(a, bid, BOCCELARCH_QUANTITY);
     a->split.number = boccelarch_split(text, length, a->split.quantities, BIDS, &a->split.place, &a->split.price, &a->split.meets);
+    call_table_entries(a);
     return NULL;
 }
 
@@ -222,6 +249,36 @@ static uint64_t sum(const struct answers *a, enum boccelarch_column column)
     return all;
 }
 
+static void make_printed_table(struct text *table)
+{
+    static const unsigned bands[][2] = {{1, 1},        {8, 2},       {15, 3},       {25, 5},       {50, 8},         {90, 13},
+                                        {150, 20},     {280, 32},    {500, 50},     {1200, 80},    {3200, 125},     {10000, 200},
+                                        {35000, 315},  {150000, 500}, {500000, 800}, {1000000, 1250}};
+    size_t band;
+
+    table->length = 0;
+    for (band = 0; band < sizeof bands / sizeof bands[0]; band++)
+        append(table, "(band %u %u)\n", bands[band][0], bands[band][1]);
+}
+
+/* By the printed table the answers are those without a table. */
+static void check_by_table(const struct answers *a, const struct text *sheet, const struct text *page)
+{
+    static struct text table;
+    uint64_t number;
+
+    make_printed_table(&table);
+    expect_output("printed table", &table, &a->table);
+    expect_output("table written out", &table, &a->table_written);
+    expect_output("sheet by table", sheet, &a->sheet_by_table);
+    expect_output("page by table", page, &a->page_by_table);
+    expect_accepted("award by table", a->award_by_table.number, a->award_by_table.place);
+    expect_number("bids by table", BIDS, a->award_by_table.count);
+    expect_number("total by table", a->award.total, a->award_by_table.total);
+    for (number = 0; number < BOCCELARCH_AWARD_NUMBERS; number++)
+        expect_number("a number of the award by table", a->award.rows[number], a->award_by_table.rows[number]);
+}
+
 static void check_answers(const struct answers *a, uint64_t demand, uint64_t total, uint64_t covered)
 {
     static struct text sheet, page;
@@ -243,6 +300,7 @@ static void check_answers(const struct answers *a, uint64_t demand, uint64_t tot
     expect_number("bidders who are not needed", covered, sum(a, BOCCELARCH_COVERED));
     expect_number("price of the split", a->award.total, (uint64_t)a->split.price);
     expect_number("split meets the demand", 1, a->split.meets);
+    check_by_table(a, &sheet, &page);
 }
 
 /* `covered`: without how many of the bidders, each taken out alone, the demand is covered. */

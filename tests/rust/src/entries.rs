@@ -1,7 +1,9 @@
-//! The six entries for C, called with lent memory, and everything that a call leaves behind.
+//! The entries for C, called with lent memory, and everything that a call leaves behind.
 
 use crate::memory::{Area, Side};
 use crate::random::Random;
+use crate::table::Loaded;
+use std::rc::Rc;
 
 extern "C" {
     fn boccelarch_sheet(text: *const u8, text_length: usize, out: *mut u8, out_length: usize, place: *mut u64, bytes: *mut u64) -> u64;
@@ -26,9 +28,50 @@ extern "C" {
         total: *mut u64,
         count: *mut u64,
     ) -> u64;
+    fn boccelarch_sheet_by_table(
+        table: *const u8,
+        table_length: usize,
+        text: *const u8,
+        text_length: usize,
+        out: *mut u8,
+        out_length: usize,
+        place: *mut u64,
+        bytes: *mut u64,
+    ) -> u64;
+    fn boccelarch_page_by_table(
+        table: *const u8,
+        table_length: usize,
+        text: *const u8,
+        text_length: usize,
+        out: *mut u8,
+        out_length: usize,
+        place: *mut u64,
+        bytes: *mut u64,
+    ) -> u64;
+    fn boccelarch_award_by_table(
+        table: *const u8,
+        table_length: usize,
+        text: *const u8,
+        text_length: usize,
+        rows: *mut u64,
+        rows_length: usize,
+        place: *mut u64,
+        total: *mut u64,
+        count: *mut u64,
+    ) -> u64;
+    fn boccelarch_write_table(
+        table: *const u8,
+        table_length: usize,
+        out: *mut u8,
+        out_length: usize,
+        place: *mut u64,
+        bytes: *mut u64,
+    ) -> u64;
+    fn boccelarch_printed_table(out: *mut u8, out_length: usize, place: *mut u64, bytes: *mut u64) -> u64;
 }
 
-/// A call and what it is lent: an output's length in bytes, a split's quantities, or a length in numbers for the award's rows.
+/// A call and what it is lent besides the text: an output's length in bytes, a split's quantities, or a length in numbers for the award's
+/// rows; by a table also its text. `WriteTable` is given the table alone, and `PrintedTable` no text at all.
 #[derive(Clone, Debug, PartialEq)]
 pub enum Call {
     Sheet(usize),
@@ -37,10 +80,35 @@ pub enum Call {
     Room,
     Split(Vec<u64>),
     Award(usize),
+    SheetByTable(Rc<Loaded>, usize),
+    PageByTable(Rc<Loaded>, usize),
+    AwardByTable(Rc<Loaded>, usize),
+    WriteTable(Rc<Loaded>, usize),
+    PrintedTable(usize),
+}
+
+impl Call {
+    /// The same call by a table, where there is one.
+    pub fn by_table(&self, table: &Rc<Loaded>) -> Option<Call> {
+        match self {
+            Call::Sheet(length) => Some(Call::SheetByTable(table.clone(), *length)),
+            Call::Page(length) => Some(Call::PageByTable(table.clone(), *length)),
+            Call::Award(length) => Some(Call::AwardByTable(table.clone(), *length)),
+            _ => None,
+        }
+    }
+
+    fn table(&self) -> &[u8] {
+        match self {
+            Call::SheetByTable(loaded, _) | Call::PageByTable(loaded, _) => &loaded.text,
+            Call::AwardByTable(loaded, _) | Call::WriteTable(loaded, _) => &loaded.text,
+            _ => &[],
+        }
+    }
 }
 
 /// What a call gives back: the numbers behind pointers besides the place (bytes; price and meets; total and count; 0 where there is
-/// no second), the lent output whole, and whether text, quantities and all guards are unchanged.
+/// no second), the lent output whole, and whether text, table, quantities and all guards are unchanged.
 #[derive(Clone, Debug, PartialEq)]
 pub struct Answer {
     pub refusal: u64,
@@ -61,7 +129,9 @@ fn lent(call: &Call) -> (usize, &[u64]) {
         Call::Sheet(length) | Call::Page(length) | Call::Write(length) => (*length, &[]),
         Call::Room => (0, &[]),
         Call::Split(quantities) => (0, quantities),
-        Call::Award(length) => (8 * length, &[]),
+        Call::Award(length) | Call::AwardByTable(_, length) => (8 * length, &[]),
+        Call::SheetByTable(_, length) | Call::PageByTable(_, length) => (*length, &[]),
+        Call::WriteTable(_, length) | Call::PrintedTable(length) => (*length, &[]),
     }
 }
 
@@ -75,6 +145,7 @@ const NUMBERS: [u64; 7] = [BETWEEN, UNSET, BETWEEN, UNSET, BETWEEN, UNSET, BETWE
 
 pub struct Entries {
     text: Area,
+    table: Area,
     output: Area,
     quantities: Area,
     sides: Random,
@@ -82,7 +153,8 @@ pub struct Entries {
 
 impl Entries {
     pub fn new() -> Self {
-        Entries { text: Area::new(), output: Area::new(), quantities: Area::new(), sides: Random::new(27) }
+        let [text, table, output, quantities] = std::array::from_fn(|_| Area::new());
+        Entries { text, table, output, quantities, sides: Random::new(27) }
     }
 
     fn side(&mut self) -> Side {
@@ -92,18 +164,19 @@ impl Entries {
     pub fn answer(&mut self, text: &[u8], call: &Call) -> Answer {
         let (length, quantities) = lent(call);
         let quantities = bytes_of(quantities);
-        let (one, two, three) = (self.side(), self.side(), self.side());
+        let (one, two, three, four) = (self.side(), self.side(), self.side(), self.side());
         let text_at = self.text.lend(text, one);
         let output_at = self.output.lend(&pattern(length), two);
         let quantities_at = self.quantities.lend(&quantities, three);
+        let table_at = self.table.lend(call.table(), four);
         let output_at = if quantities.is_empty() { output_at } else { quantities_at };
         let mut numbers = NUMBERS;
-        let refusal = enter(call, text_at, text.len(), output_at, &mut numbers);
+        let refusal = enter(call, (text_at, text.len()), (table_at, call.table().len()), output_at, &mut numbers);
         let [low, place, mid, first, next, second, high] = numbers;
         let second = if takes_one(call) { second.wrapping_sub(UNSET) } else { second };
         let apart = [low, mid, next, high].iter().all(|&number| number == BETWEEN);
-        let lent = self.text.content() == text && self.quantities.content() == quantities;
-        let areas = [&self.text, &self.output, &self.quantities];
+        let lent = self.text.content() == text && self.table.content() == call.table() && self.quantities.content() == quantities;
+        let areas = [&self.text, &self.table, &self.output, &self.quantities];
         let guards = areas.iter().all(|area| area.guards_unchanged());
         let output = self.output.content().to_vec();
         Answer { refusal, place, numbers: [first, second], output, rest_unchanged: apart && lent && guards }
@@ -111,11 +184,14 @@ impl Entries {
 }
 
 fn takes_one(call: &Call) -> bool {
-    matches!(call, Call::Sheet(_) | Call::Page(_) | Call::Write(_) | Call::Room)
+    !matches!(call, Call::Split(_) | Call::Award(_) | Call::AwardByTable(..))
 }
 
+/// Where a lent text begins, and its length.
+type Text = (*const u8, usize);
+
 /// Calls the entry; `lent` is the output, or the quantities of a split.
-fn enter(call: &Call, text: *const u8, length: usize, lent: *mut u8, numbers: &mut [u64; 7]) -> u64 {
+fn enter(call: &Call, (text, length): Text, (table, size): Text, lent: *mut u8, numbers: &mut [u64; 7]) -> u64 {
     let numbers = numbers.as_mut_ptr();
     // SAFETY: every pointer is valid for the length beside it, the areas start at pages and 64-bit numbers lie at multiples of 8,
     // and what is written to overlaps nothing else.
@@ -128,6 +204,11 @@ fn enter(call: &Call, text: *const u8, length: usize, lent: *mut u8, numbers: &m
             Call::Room => boccelarch_room(text, length, place, first),
             Call::Split(list) => boccelarch_split(text, length, lent.cast(), list.len(), place, first.cast(), second),
             Call::Award(rows) => boccelarch_award(text, length, lent.cast(), *rows, place, first, second),
+            Call::SheetByTable(_, bytes) => boccelarch_sheet_by_table(table, size, text, length, lent, *bytes, place, first),
+            Call::PageByTable(_, bytes) => boccelarch_page_by_table(table, size, text, length, lent, *bytes, place, first),
+            Call::AwardByTable(_, rows) => boccelarch_award_by_table(table, size, text, length, lent.cast(), *rows, place, first, second),
+            Call::WriteTable(_, bytes) => boccelarch_write_table(table, size, lent, *bytes, place, first),
+            Call::PrintedTable(bytes) => boccelarch_printed_table(lent, *bytes, place, first),
         }
     }
 }

@@ -1,4 +1,4 @@
-//! What the paper and the header say that each call gives for a text.
+//! What the papers and the header say that each call gives for a text, and for a table where the call takes one.
 
 use crate::book::{refusal, Book, Refusal};
 use crate::clearing::{self, Award};
@@ -6,6 +6,7 @@ use crate::entries::{pattern, Answer, Call};
 use crate::page;
 use crate::shape::Shape;
 use crate::sheet;
+use crate::table::Table;
 use std::cell::OnceCell;
 
 /// A text read once, and its award once somebody asks for it.
@@ -39,15 +40,26 @@ impl Judged {
     }
 
     pub fn sheet(&self) -> Result<Vec<u8>, Refusal> {
+        self.sheet_by(Ok(&Table::printed()))
+    }
+
+    /// By a table, whose refusals come before all of the book's.
+    pub fn sheet_by(&self, table: Result<&Table, Refusal>) -> Result<Vec<u8>, Refusal> {
+        let table = table?;
         let (book, award) = self.cleared()?;
-        let sheet = sheet::sheet(book, award);
+        let sheet = sheet::sheet(book, award, table);
         assert!(sheet.len() <= 600, "600 bytes hold every sheet");
         Ok(sheet)
     }
 
     pub fn page(&self) -> Result<Vec<u8>, Refusal> {
+        self.page_by(Ok(&Table::printed()))
+    }
+
+    pub fn page_by(&self, table: Result<&Table, Refusal>) -> Result<Vec<u8>, Refusal> {
+        let table = table?;
         let (book, award) = self.cleared()?;
-        let page = page::page(book, award);
+        let page = page::page(book, award, table);
         assert!(page.len() == 65 * (book.bids.len() + 1), "a line of a page is 64 bytes and a byte 10");
         Ok(page)
     }
@@ -66,7 +78,12 @@ impl Judged {
             Call::Write(length) => put_down(self.written(), *length, |bytes| [bytes, 0]),
             Call::Room => bare(self.book().map(|book| [book.room(), 0])),
             Call::Split(list) => bare(self.split(list)),
-            Call::Award(length) => self.award(*length),
+            Call::Award(length) => self.award_by(Ok(&Table::printed()), *length),
+            Call::SheetByTable(loaded, length) => put_down(self.sheet_by(loaded.table()), *length, |bytes| [bytes, 0]),
+            Call::PageByTable(loaded, length) => put_down(self.page_by(loaded.table()), *length, |bytes| [bytes, 0]),
+            Call::AwardByTable(loaded, length) => self.award_by(loaded.table(), *length),
+            Call::WriteTable(loaded, length) => put_down(loaded.written(), *length, |bytes| [bytes, 0]),
+            Call::PrintedTable(length) => put_down(Ok(Table::printed().written()), *length, |bytes| [bytes, 0]),
         }
     }
 
@@ -75,8 +92,8 @@ impl Judged {
         Ok([price as u64, u64::from(meets)])
     }
 
-    fn award(&self, length: usize) -> Answer {
-        let numbers = self.cleared().map(|(book, award)| sheet::numbers(book, award));
+    fn award_by(&self, table: Result<&Table, Refusal>, length: usize) -> Answer {
+        let numbers = table.and_then(|table| self.cleared().map(|(book, award)| sheet::numbers(book, award, table)));
         let bytes = numbers.map(|all| all.iter().flat_map(|n| n.to_ne_bytes()).collect());
         put_down(bytes, 8 * length, |_| {
             let (book, award) = self.cleared().expect("nothing is refused");

@@ -1,4 +1,4 @@
-//! The groups of generated texts.
+//! The groups of generated texts. Those with tables are in tablegroups.rs.
 
 use crate::compare::Comparer;
 use crate::entries::Call;
@@ -7,10 +7,11 @@ use crate::generate::books::{self, Plan};
 use crate::generate::families::{self, Family};
 use crate::generate::{broken, bytes, calls, limits};
 use crate::random::Random;
+use crate::tablegroups;
 
 pub type Group = (&'static str, fn(&mut Comparer, &mut Random));
 
-pub const GROUPS: [Group; 30] = [
+pub const GROUPS: [Group; 42] = [
     ("the paper's book, every demand", paper_book),
     ("small books", small_books),
     ("small books with ties", tied_books),
@@ -41,6 +42,18 @@ pub const GROUPS: [Group; 30] = [
     ("hard books: prices near a line", noise),
     ("books in which carriage decides the order", carried),
     ("other carriages, and bids in the old form", carriages),
+    ("the printed table", tablegroups::printed),
+    ("tables that pass", tablegroups::passing),
+    ("quantities beside the limits of bands", tablegroups::limits_of_bands),
+    ("the longest sheets, with the largest samples", tablegroups::longest_sheets),
+    ("tables with one rule broken, in each line", tablegroups::one_broken),
+    ("tables with several rules broken", tablegroups::several_broken),
+    ("seventeen bands and more", tablegroups::too_many),
+    ("every edit of one byte of a table", tablegroups::edits),
+    ("several edits, beginnings, words and bytes for a table", tablegroups::other_damages),
+    ("tables beside 4,096 bytes", tablegroups::long_texts),
+    ("outputs of every length by a table", tablegroups::every_length),
+    ("a refused table with a refused book", tablegroups::order),
 ];
 
 /// Books of eight bids of six segments for each family.

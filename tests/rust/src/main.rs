@@ -1,9 +1,11 @@
-//! The entries for C compared with a reference of its own, which is written from the customer's paper alone.
+//! The entries for C compared with a reference of its own, which is written from the customer's papers alone.
 //!
 //! First the self-test (alone with `--self-test`), then the groups. A text is one book or what stands for one; on each several calls are
-//! made, and of each call the number returned, every number behind a pointer, every lent byte and the bytes around them are compared. Each
-//! page is also read back by its columns. In the last line, passed and failed count the compared calls and the pages read back: together
-//! they are all of them.
+//! made, and of each call the number returned, every number behind a pointer, every lent byte and the bytes around them are compared. In
+//! the last groups the calls are made by a sampling table or what stands for one. Each text is also given once by the printed table, as
+//! the product writes that, and the answer compared with the product's own without a table. Each page is read back by its columns, and the
+//! samples by a table are held against its bands. In the last line, passed and failed count the compared calls, the pages read back and the
+//! samples looked at: together they are all of them.
 
 #![deny(warnings)]
 
@@ -20,12 +22,17 @@ mod random;
 mod selftest;
 mod shape;
 mod sheet;
+mod table;
+mod tablegroups;
 
 use compare::{Comparer, Counts};
 use std::process::ExitCode;
+use table::{Rule, RULES};
 
 const TEXTS_WANTED: usize = 100_000;
 const CARRIED_WANTED: u64 = 50_000;
+const TABLES_WANTED: usize = 40_000;
+const PASSING_WANTED: u64 = 15_000;
 
 fn run_groups(comparer: &mut Comparer) {
     for (seed, (name, group)) in groups::GROUPS.into_iter().enumerate() {
@@ -45,6 +52,43 @@ fn every_refusal(comparer: &Comparer) -> bool {
     let each: Vec<String> = counts.map(|(number, count)| format!("{number}: {count}")).collect();
     println!("refusals: {}", each.join(", "));
     comparer.refusals.iter().all(|&count| count > 0)
+}
+
+/// The lines, from the first to the last, in which a rule can be the only one that is broken. From the second line on a quantity or a
+/// sample below 1 is also below the one before. The first sample is 1, so the second cannot fall without being below 1; and in the first
+/// line a sample above 99,999 is above the lowest quantity too. A last quantity above 1,000,000 is a wrong end too.
+fn broken_alone(rule: Rule) -> (usize, usize) {
+    match rule {
+        Rule::TooLow | Rule::TooSmall => (1, 1),
+        Rule::TooHigh => (1, 15),
+        Rule::NotRising | Rule::TooLarge => (2, 16),
+        Rule::Falling => (3, 16),
+        Rule::AboveLowest | Rule::WrongEnd => (1, 16),
+        Rule::TooMany => (17, 17),
+    }
+}
+
+/// Each rule must have been broken alone in each line where it can be.
+fn every_fault(comparer: &Comparer) -> bool {
+    let lines = |rule| (broken_alone(rule).0..=broken_alone(rule).1).map(move |line| (rule, line));
+    let missing: Vec<(Rule, usize)> = RULES.into_iter().flat_map(lines).filter(|fault| !comparer.faults.contains(fault)).collect();
+    println!("{} faults of a table, each a rule broken alone in a line", comparer.faults.len());
+    if !missing.is_empty() {
+        println!("FAILED: no table with {missing:?}");
+    }
+    missing.is_empty()
+}
+
+/// Enough tables, and of these enough that pass.
+fn enough_tables(comparer: &Comparer) -> bool {
+    let Counts { tables, passing, samples, .. } = comparer.counts;
+    let distinct = comparer.distinct_table_texts();
+    println!("{tables} tables, {distinct} of them differ from each other, {passing} pass, {samples} samples looked at");
+    let enough = distinct >= TABLES_WANTED && passing >= PASSING_WANTED;
+    if !enough {
+        println!("FAILED: fewer than {TABLES_WANTED} tables, or than {PASSING_WANTED} that pass");
+    }
+    enough
 }
 
 fn main() -> ExitCode {
@@ -71,7 +115,8 @@ fn main() -> ExitCode {
         println!("FAILED: fewer than {CARRIED_WANTED} cleared books with a carriage above 0");
         good = false;
     }
+    good &= every_fault(&comparer) & enough_tables(&comparer);
     println!("{} texts, {} calls compared, {} pages read back, {} different", counts.texts, counts.calls, counts.pages, counts.different);
-    println!("{} passed, {} failed", counts.calls + counts.pages - counts.different, counts.different);
+    println!("{} passed, {} failed", counts.calls + counts.pages + counts.samples - counts.different, counts.different);
     ExitCode::from(u8::from(!good || counts.different > 0))
 }

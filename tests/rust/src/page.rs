@@ -1,8 +1,9 @@
-//! The award as a page, and a page read back by its columns.
+//! The award as a page, by a sampling table, and a page read back by its columns.
 
 use crate::book::Book;
 use crate::clearing::Award;
 use crate::sheet::{self, Row};
+use crate::table::Table;
 
 /// Cents with a point and two decimals.
 fn money(cents: i64) -> String {
@@ -16,8 +17,8 @@ fn line(row: &Row) -> String {
     format!("{bidder:>6}{segment:>4}{quantity:>10}{price:>20}{sample:>6}{without:>18}\n")
 }
 
-pub fn page(book: &Book, award: &Award) -> Vec<u8> {
-    let lines: String = sheet::rows(book, award).iter().map(line).collect();
+pub fn page(book: &Book, award: &Award, table: &Table) -> Vec<u8> {
+    let lines: String = sheet::rows(book, award, table).iter().map(line).collect();
     format!("{:>20}{:>44}\n{lines}", book.demand, money(award.total)).into_bytes()
 }
 

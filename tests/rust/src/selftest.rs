@@ -1,16 +1,18 @@
-//! The check of the reference and of the comparison: the reference against what the paper prints, against cases with carriage that were
-//! worked out by hand and against a listing of all divisions, and the comparison against answers that were altered.
+//! The check of the reference and of the comparison: the reference against what the paper prints, against cases with carriage and with
+//! tables that were worked out by hand and against a listing of all divisions, and the comparison against answers that were altered.
 
 use crate::book::{refusal, Bid, Book, Refusal};
 use crate::clearing;
 use crate::compare::Comparer;
 use crate::entries::{Answer, Call};
 use crate::expected::Judged;
-use crate::generate::{books, bytes, families};
+use crate::generate::{books, bytes, families, limits, tables};
 use crate::page;
 use crate::random::Random;
 use crate::shape::Shape;
 use crate::sheet;
+use crate::table::{Loaded, Table};
+use std::rc::Rc;
 
 const BIDS: &str = "(bid 3 0 (seg 1 60 400 0) (seg 61 100 350 -500))
 (bid 8 0 (seg 20 80 380 1000))
@@ -270,6 +272,139 @@ fn places(checks: &mut Checks, shape: &Shape) {
     }
 }
 
+const PRINTED: &str = "(band 1 1)
+(band 8 2)
+(band 15 3)
+(band 25 5)
+(band 50 8)
+(band 90 13)
+(band 150 20)
+(band 280 32)
+(band 500 50)
+(band 1200 80)
+(band 3200 125)
+(band 10000 200)
+(band 35000 315)
+(band 150000 500)
+(band 500000 800)
+(band 1000000 1250)
+";
+
+fn load(shape: &Shape, text: &str) -> Result<Table, Refusal> {
+    Table::read(shape, text.as_bytes())
+}
+
+/// Tables that pass, at the limits of the rules, and such as do not.
+fn table_refusals(checks: &mut Checks, shape: &Shape) {
+    let sixteen: String = (1..=15).map(|highest| format!("(band {highest} 1)\n")).collect();
+    let cases = [
+        (PRINTED.to_string(), None),
+        ("(band 1000000 1)\n".to_string(), None),
+        ("(band 1 1)\n(band 1000000 2)\n".to_string(), None),
+        ("(band 1 1)\n(band 1000000 3)\n".to_string(), Some(refusal(12, 2))),
+        ("(band 1000000 2)\n".to_string(), Some(refusal(12, 1))),
+        ("(band 1000000 0)\n".to_string(), Some(refusal(12, 1))),
+        ("(band 0 1)\n(band 1000000 1)\n".to_string(), Some(refusal(12, 1))),
+        ("(band 999999 1)\n".to_string(), Some(refusal(12, 1))),
+        ("(band 1000001 1)\n".to_string(), Some(refusal(12, 1))),
+        ("(band 9 1)\n(band 9999999999999 1)\n(band 1000000 1)\n".to_string(), Some(refusal(12, 2))),
+        ("(band 9 1)\n(band 9 1)\n(band 1000000 1)\n".to_string(), Some(refusal(12, 2))),
+        ("(band 9 1)\n(band 10 1)\n(band 1000000 1)\n".to_string(), None),
+        ("(band 9 1)\n(band 99 7)\n(band 1000000 6)\n".to_string(), Some(refusal(12, 3))),
+        ("(band 9 1)\n(band 99 10)\n(band 1000000 10)\n".to_string(), None),
+        ("(band 9 1)\n(band 99 11)\n(band 1000000 11)\n".to_string(), Some(refusal(12, 2))),
+        ("(band 9 1)\n(band 1000000 1)\n(band 1000000 1)\n".to_string(), Some(refusal(12, 3))),
+        ("(band 99998 1)\n(band 1000000 99999)\n".to_string(), None),
+        ("(band 99997 1)\n(band 1000000 99999)\n".to_string(), Some(refusal(12, 2))),
+        ("(band 99999 1)\n(band 1000000 100000)\n".to_string(), Some(refusal(12, 2))),
+        ("(band 9 1)\n(band 99 1)\n".to_string(), Some(refusal(12, 2))),
+        (format!("{sixteen}(band 1000000 16)\n"), None),
+        (format!("{sixteen}(band 16 16)\n(band 1000000 16)\n"), Some(refusal(12, 17))),
+        (format!("{sixteen}(band 16 16)\n(band 17 16)\n(band 18 16)\n"), Some(refusal(12, 17))),
+        (format!("{sixteen}(band 16 17)\n(band 1000000 16)\n"), Some(refusal(12, 16))),
+        (format!("{sixteen}(band 16 16)\n"), Some(refusal(12, 16))),
+        ("".to_string(), Some(refusal(2, 0))),
+        ("(band 05 1)\n".to_string(), Some(refusal(2, 7))),
+        (format!("{}(band 1000000 1)\n", "(band 1 1)\n".repeat(370)), Some(refusal(12, 2))),
+        ("(band 1 1)\n".repeat(373), Some(refusal(1, 4096))),
+    ];
+    for (text, expected) in cases {
+        checks.check(&text, load(shape, &text).err() == expected);
+    }
+    checks.check("the printed table written", Table::printed().written() == PRINTED.as_bytes());
+    checks.check("the printed table read", load(shape, PRINTED) == Ok(Table::printed()));
+}
+
+/// As `places`, of a table.
+fn table_places(checks: &mut Checks, shape: &Shape) {
+    let texts = [
+        "(band |-5 1)\n",
+        "(band 5 |-1)\n",
+        "(band 1234567890123|4 1)\n",
+        "(band 5 1234567890123|4)\n",
+        "(band 0|1 1)\n",
+        "(band 5|)\n",
+        "(band 5 1| 1)\n",
+        "(band 5 1)|",
+        "(band 5 1)\n|\n",
+        "(band 5 1)\n| ",
+        "(band 5 1)|\r\n",
+        "(band 5 1)\n(b|id 3 0 (seg 1 5 1 0))\n",
+        "|Band",
+        "| (band 5 1)\n",
+        "(band | 5 1)\n",
+        "(band 5 |)\n",
+    ];
+    for text in texts {
+        let place = text.find('|').expect("a marked place");
+        let plain = text.replace('|', "");
+        checks.check(text, load(shape, &plain).err() == Some(refusal(2, place)));
+    }
+}
+
+/// The paper's book and the longest sheet by other tables.
+fn sheets_by_table(checks: &mut Checks, shape: &Shape, table_shape: &Shape) {
+    let paper = judged(shape, &format!("(demand 120)\n{BIDS}"));
+    let cases = [
+        (PRINTED, 20, 5),
+        ("(band 1000000 1)\n", 1, 1),
+        ("(band 19 1)\n(band 99 2)\n(band 1000000 100)\n", 100, 2),
+        ("(band 20 1)\n(band 100 2)\n(band 1000000 3)\n", 2, 1),
+        ("(band 1 1)\n(band 20 2)\n(band 21 3)\n(band 1000000 4)\n", 4, 2),
+    ];
+    for (text, of_hundred, of_twenty) in cases {
+        let first = SHEET.replace("34500 20 ", &format!("34500 {of_hundred} "));
+        let sheet = first.replace("8600 5 ", &format!("8600 {of_twenty} "));
+        let table = load(table_shape, text);
+        checks.check(text, paper.sheet_by(table.as_ref().map_err(|by| *by)) == Ok(sheet.into_bytes()));
+    }
+    let widest = Table::of(&[(99_998, 1), (1_000_000, 99_999)]);
+    let longest = Judged::new(shape, &limits::longest(20_000).written()).sheet_by(Ok(&widest));
+    checks.check("the longest sheet", longest.is_ok_and(|sheet| (520..=600).contains(&sheet.len())));
+    let first = paper.sheet_by(Err(refusal(12, 3)));
+    checks.check("the table's refusal", first == Err(refusal(12, 3)));
+    let both = judged(shape, "(demand").sheet_by(Err(refusal(12, 3)));
+    checks.check("the table's refusal before the book's", both == Err(refusal(12, 3)));
+}
+
+/// Tables that were made to pass do, and are written again the same; every quantity lies in one band, and no sample is above its quantity.
+fn table_laws(checks: &mut Checks, shape: &Shape) {
+    let mut random = Random::new(72);
+    for _ in 0..400 {
+        let table = tables::passing(&mut random);
+        let text = table.written();
+        checks.check("a table read from its own text", Table::read(shape, &text) == Ok(table.clone()) && text.len() <= 336);
+        let beside = table.bands.iter().flat_map(|band| limits::beside(band.highest));
+        let mut quantities: Vec<i64> = (0..=70).chain(beside).filter(|&quantity| quantity <= 1_000_000).collect();
+        quantities.sort();
+        let samples: Vec<i64> = quantities.iter().map(|&quantity| table.sample(quantity)).collect();
+        let well = quantities.iter().zip(&samples).all(|(&quantity, &sample)| table.samples_well(quantity, sample));
+        checks.check("the samples of a table", well && samples.is_sorted());
+        let altered = quantities.iter().zip(&samples).any(|(&quantity, &sample)| table.samples_well(quantity, sample + 1));
+        checks.check("other samples than a table's", !altered);
+    }
+}
+
 /// A price and the quantities that have it.
 type Division = (i64, Vec<i64>);
 
@@ -360,6 +495,9 @@ fn alterations(checks: &mut Checks) {
     let refused = ["(demand 0)\n(bid 3 0 (seg 1 60 400 0))\n", "(demand", "(demand 301)\n(bid 3 0 (seg 1 9 1 0))\n"];
     for text in [accepted.as_str(), CARRIED].into_iter().chain(refused) {
         alter_text(checks, &mut comparer, text);
+        for table in ["(band 19 1)\n(band 99 2)\n(band 1000000 100)\n", "(band 1 2)\n", "(band"] {
+            alter_by_table(checks, &mut comparer, text, table);
+        }
     }
     checks.check("altered answers were compared", comparer.counts.different > 100);
 }
@@ -369,6 +507,16 @@ fn alter_text(checks: &mut Checks, comparer: &mut Comparer, text: &str) {
     let split = Call::Split(vec![60, 60, 0]);
     let outputs = [Call::Sheet(600), Call::Sheet(9), Call::Page(585), Call::Page(9), Call::Write(300)];
     for call in outputs.into_iter().chain([Call::Room, split, Call::Award(56)]) {
+        alter_answer(checks, comparer, text, &call, &judged.answer(&call));
+    }
+}
+
+fn alter_by_table(checks: &mut Checks, comparer: &mut Comparer, text: &str, table: &str) {
+    let judged = judged(&comparer.shape, text);
+    let table = Rc::new(Loaded::new(&comparer.table_shape, table.as_bytes()));
+    let by_table = [Call::Sheet(600), Call::Sheet(9), Call::Page(585), Call::Award(56)].map(|call| call.by_table(&table));
+    let alone = [Call::WriteTable(table.clone(), 336), Call::WriteTable(table.clone(), 9), Call::PrintedTable(336), Call::PrintedTable(9)];
+    for call in by_table.into_iter().flatten().chain(alone) {
         alter_answer(checks, comparer, text, &call, &judged.answer(&call));
     }
 }
@@ -386,7 +534,7 @@ fn alter_answer(checks: &mut Checks, comparer: &mut Comparer, text: &str, call: 
 
 /// Whether every check holds; says how many there were.
 pub fn run() -> bool {
-    let shape = Shape::of_book();
+    let (shape, table_shape) = (Shape::of_book(), Shape::of_table());
     let mut checks = Checks::default();
     paper_awards(&mut checks, &shape);
     pages(&mut checks, &shape);
@@ -397,6 +545,10 @@ pub fn run() -> bool {
     carriage_at_limits(&mut checks, &shape);
     carriage_refusals(&mut checks, &shape);
     places(&mut checks, &shape);
+    table_refusals(&mut checks, &table_shape);
+    table_places(&mut checks, &table_shape);
+    sheets_by_table(&mut checks, &shape, &table_shape);
+    table_laws(&mut checks, &table_shape);
     listings(&mut checks);
     alterations(&mut checks);
     println!("self-test: {} checks, {} failed", checks.done, checks.failed);

@@ -1,4 +1,4 @@
-//! The shape of a bid book as a finite automaton over bytes.
+//! The shapes of a bid book and of a sampling table, each as a finite automaton over bytes.
 //!
 //! The grammar is laid out as states, those from which the end cannot be reached are dropped, and the sets of the others are made into a
 //! table. A beginning of a text is possible exactly when its set of states is not empty.
@@ -45,6 +45,14 @@ fn bid() -> Part {
 fn book() -> Part {
     let bids = Repeated(Box::new(bid()));
     Row(vec![Word("(demand "), number(), Word(")\n"), bids])
+}
+
+fn band() -> Part {
+    Row(vec![Word("(band "), number(), Word(" "), number(), Word(")\n")])
+}
+
+fn table() -> Part {
+    Repeated(Box::new(band()))
 }
 
 /// The states: those that a byte of a range leads to, and those that are reached without a byte.
@@ -180,9 +188,17 @@ pub struct Shape {
 
 impl Shape {
     pub fn of_book() -> Self {
+        Shape::of(&book())
+    }
+
+    pub fn of_table() -> Self {
+        Shape::of(&table())
+    }
+
+    fn of(whole: &Part) -> Self {
         let mut states = States::default();
         let start = states.add();
-        let end = states.lay(&book(), start);
+        let end = states.lay(whole, start);
         let reaches_end = states.reaches_end(end);
         let mut sets = Sets::default();
         sets.number(states.closed(vec![start], &reaches_end));

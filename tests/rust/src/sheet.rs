@@ -1,35 +1,8 @@
-//! The award as rows of numbers and as a sheet, and the numbers that a sheet shows.
+//! The award as rows of numbers and as a sheet, by a sampling table, and the numbers that a sheet shows.
 
 use crate::book::Book;
 use crate::clearing::Award;
-
-/// Highest quantity and sample, as printed in the paper.
-const SAMPLES: [(i64, i64); 16] = [
-    (1, 1),
-    (8, 2),
-    (15, 3),
-    (25, 5),
-    (50, 8),
-    (90, 13),
-    (150, 20),
-    (280, 32),
-    (500, 50),
-    (1_200, 80),
-    (3_200, 125),
-    (10_000, 200),
-    (35_000, 315),
-    (150_000, 500),
-    (500_000, 800),
-    (1_000_000, 1_250),
-];
-
-fn sample(quantity: i64) -> i64 {
-    if quantity == 0 {
-        return 0;
-    }
-    let line = SAMPLES.iter().find(|line| quantity <= line.0);
-    line.expect("a quantity in its range").1
-}
+use crate::table::Table;
 
 /// Bidder, segment, quantity, price, blanks to sample; and the total without the bidder.
 pub struct Row {
@@ -37,13 +10,13 @@ pub struct Row {
     pub without: Option<i64>,
 }
 
-pub fn rows(book: &Book, award: &Award) -> Vec<Row> {
+pub fn rows(book: &Book, award: &Award, table: &Table) -> Vec<Row> {
     let row = |index: usize| {
         let bid = &book.bids[index];
         let quantity = award.quantities[index];
         let segment = bid.segment_of(quantity).expect("on a segment") as i64;
         let price = bid.price(quantity).expect("on a segment");
-        let numbers = [bid.bidder, segment, quantity, price, sample(quantity)];
+        let numbers = [bid.bidder, segment, quantity, price, table.sample(quantity)];
         Row { numbers, without: award.without[index] }
     };
     (0..book.bids.len()).map(row).collect()
@@ -55,8 +28,8 @@ fn line(row: &Row) -> String {
     format!("(buy {numbers} (without {without}))\n")
 }
 
-pub fn sheet(book: &Book, award: &Award) -> Vec<u8> {
-    let lines: String = rows(book, award).iter().map(line).collect();
+pub fn sheet(book: &Book, award: &Award, table: &Table) -> Vec<u8> {
+    let lines: String = rows(book, award, table).iter().map(line).collect();
     format!("(award {} {})\n{lines}", book.demand, award.total).into_bytes()
 }
 
@@ -69,7 +42,7 @@ pub fn shown(sheet: &[u8]) -> Vec<Option<i64>> {
 }
 
 /// The rows of seven numbers that the entry for the award gives.
-pub fn numbers(book: &Book, award: &Award) -> Vec<u64> {
+pub fn numbers(book: &Book, award: &Award, table: &Table) -> Vec<u64> {
     let seven = |row: &Row| {
         let covered = u64::from(row.without.is_some());
         let without = row.without.unwrap_or(0) as u64;
@@ -77,5 +50,5 @@ pub fn numbers(book: &Book, award: &Award) -> Vec<u64> {
         numbers.extend([covered, without]);
         numbers
     };
-    rows(book, award).iter().flat_map(seven).collect()
+    rows(book, award, table).iter().flat_map(seven).collect()
 }

@@ -1,4 +1,4 @@
-//! Texts made of bytes: edits of books, other words for a carriage, beginnings, any bytes, and texts beside the longest length.
+//! Texts made of bytes: edits of books and tables, other words for a carriage, beginnings, any bytes, and texts beside the longest length.
 
 use crate::random::Random;
 
@@ -183,4 +183,9 @@ pub fn of_length(length: usize) -> [Vec<u8>; 3] {
     let carriages = filled(length, "(demand 5)\n", "(bid 1 ", " (seg 1 1 1 0))\n", "");
     let segments = filled(length, "(demand 5)\n(bid 1 0", " (seg 1 1 1 ", ")", ")\n");
     [bids, carriages, segments]
+}
+
+/// Tables of the shape of exactly this length, made up by highest quantities or by samples: far more bands than a table may have.
+pub fn tables_of_length(length: usize) -> [Vec<u8>; 2] {
+    [filled(length, "", "(band ", " 1)\n", ""), filled(length, "", "(band 1 ", ")\n", "")]
 }

@@ -4,6 +4,8 @@ use super::splits;
 use crate::entries::Call;
 use crate::expected::Judged;
 use crate::random::Random;
+use crate::table::{Loaded, Table};
+use std::rc::Rc;
 
 /// A length around the one needed.
 fn around(random: &mut Random, needed: usize) -> usize {
@@ -90,4 +92,55 @@ pub fn many_splits(random: &mut Random, judged: &Judged) -> Vec<Call> {
     let Ok(book) = &judged.reading else { return on_refused(random, judged) };
     let kinds = (0..2 * splits::KINDS).map(|turn| turn % splits::KINDS);
     kinds.map(|kind| Call::Split(splits::of_kind(random, judged, book, kind))).collect()
+}
+
+/// The entries by this table, each with room for everything and with a length around the one needed, and the table written again.
+pub fn by_table(random: &mut Random, judged: &Judged, table: &Rc<Loaded>) -> Vec<Call> {
+    let sheet = judged.sheet_by(table.table()).map_or(50, |bytes| bytes.len());
+    let page = judged.page_by(table.table()).map_or(260, |bytes| bytes.len());
+    let rows = judged.reading.as_ref().map_or(7, |book| 7 * book.bids.len());
+    let mut calls = written_table(random, table);
+    calls.extend([
+        Call::SheetByTable(table.clone(), 600),
+        Call::SheetByTable(table.clone(), around(random, sheet)),
+        Call::PageByTable(table.clone(), 585),
+        Call::PageByTable(table.clone(), around(random, page)),
+        Call::AwardByTable(table.clone(), 56),
+        Call::AwardByTable(table.clone(), around(random, rows)),
+    ]);
+    calls
+}
+
+/// In an output that holds every table, and in one of a length around the one needed.
+fn written_table(random: &mut Random, table: &Rc<Loaded>) -> Vec<Call> {
+    let needed = table.written().map_or(50, |bytes| bytes.len());
+    let length = around(random, needed);
+    vec![Call::WriteTable(table.clone(), 336), Call::WriteTable(table.clone(), length)]
+}
+
+/// For a table's text that is damaged: the table written again, and one of the other entries.
+pub fn by_damaged(random: &mut Random, table: &Rc<Loaded>) -> Vec<Call> {
+    let mut calls = written_table(random, table);
+    let any = [Call::Sheet(600), Call::Page(585), Call::Award(56), Call::Sheet(0), Call::Page(0), Call::Award(0)];
+    calls.extend(any[random.below(any.len())].by_table(table));
+    calls
+}
+
+/// Every length from 0 to 8 above the one needed, by a table.
+pub fn every_length_by(judged: &Judged, table: &Rc<Loaded>) -> Vec<Call> {
+    let sheet = judged.sheet_by(table.table()).map_or(60, |bytes| bytes.len());
+    let page = judged.page_by(table.table()).map_or(60, |bytes| bytes.len());
+    let written = table.written().map_or(60, |bytes| bytes.len());
+    let rows = judged.reading.as_ref().map_or(7, |book| 7 * book.bids.len());
+    let sheets = (0..=sheet + 8).map(|length| Call::SheetByTable(table.clone(), length));
+    let pages = (0..=page + 8).map(|length| Call::PageByTable(table.clone(), length));
+    let tables = (0..=written + 8).map(|length| Call::WriteTable(table.clone(), length));
+    let awards = (0..=rows + 8).map(|length| Call::AwardByTable(table.clone(), length));
+    sheets.chain(pages).chain(tables).chain(awards).collect()
+}
+
+/// The printed table in an output of every length up to a little above that of every table.
+pub fn printed_table() -> Vec<Call> {
+    let needed = Table::printed().written().len();
+    (0..=needed + 8).chain([336, 337, 4096]).map(Call::PrintedTable).collect()
 }

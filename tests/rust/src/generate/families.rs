@@ -24,7 +24,7 @@ pub type Family = fn(&mut Random, &Size) -> Book;
 pub const ALL: [Family; 5] = [steps, giant, parity, noise, carriage];
 
 /// Different numbers from 1 to `top`, rising: so many, or all where there are not so many.
-fn rising(random: &mut Random, count: usize, top: i64) -> Vec<i64> {
+pub fn rising(random: &mut Random, count: usize, top: i64) -> Vec<i64> {
     let mut numbers = BTreeSet::new();
     while numbers.len() < count.min(top as usize) {
         numbers.insert(random.between(1, top));

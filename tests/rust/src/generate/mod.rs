@@ -7,3 +7,4 @@ pub mod calls;
 pub mod families;
 pub mod limits;
 pub mod splits;
+pub mod tables;
