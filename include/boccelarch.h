@@ -8,8 +8,19 @@
  * A bid is the bidder number, the carriage in cents for one blank, and segments: start, end, unit price, fixed price. On a segment r blanks
  * cost (unit price + carriage) * r + fixed price. README.md has the ranges.
  *
- * Every function takes the bytes of a bid book, which need not end with a 0, and returns the number of the refusal, 0 where nothing is
- * refused. It always sets *place to the place of the refusal (a line, a place in the text, or a length), 0 where nothing is refused, and
+ * A sampling table says how many blanks of an awarded quantity are sampled. It is a line for each band: its highest quantity, and the sample:
+ *
+ *     (band 19 1)
+ *     (band 100 9)
+ *     (band 1000000 60)
+ *
+ * A band begins one above the band before it, the first at 1. There are 1 to 16 bands; quantities rise strictly, the last is 1,000,000; samples
+ * are from 1 to 99,999, never fall, and none is more than the lowest quantity of its band, so that the first is always 1. What is awarded is
+ * sampled by the printed table of sixteen bands, which boccelarch_printed_table writes, or, by a function whose name ends in _by_table, by the
+ * table that is passed before the book.
+ *
+ * Every function takes the bytes of a bid book or of a table, which need not end with a 0, and returns the number of the refusal, 0 where
+ * nothing is refused. It always sets *place to the place of the refusal (a line, a place in the text, or a length), 0 where nothing is refused, and
  * every other number behind a pointer; with a refusal those are 0.
  *
  * With a refusal not one byte of a lent output is changed. Without one, exactly *bytes bytes are written at its beginning (by
@@ -21,7 +32,7 @@
  * functions keep no state, allocate nothing and may be called from several threads at once.
  *
  * A thread with a stack of 64 KB can call each of them: tests/boundary/run checks it on a book of eight bids of six segments.
- * With boccelarch_sheet, boccelarch_page and boccelarch_award most books are cleared in about a millisecond or less, the slowest known in
+ * With boccelarch_sheet, boccelarch_page and boccelarch_award, by a table or not, most books are cleared in about a millisecond or less, the slowest known in
  * 0.12 s (bench/RESULTS.md).
  *
  * That the functions answer what docs/CLAIMS.md states is proved, for every text and every length.
@@ -36,8 +47,9 @@
 extern "C" {
 #endif
 
-/* The refusals, and what *place then is. Of several that are due, the first in this order is given: 1, 2, then the lines from the first, in
- * a line 3 to 8; after that 11 for a split, 9 and then 10 for a sheet, a page or an award, 10 for a book. */
+/* The refusals, and what *place then is. Of several that are due, the first in this order is given: those of a table, if one is passed, 1, 2,
+ * then 12; those of a book, 1, 2, then the lines from the first, in a line 3 to 8; after that 11 for a split, 9 and then 10 for a sheet, a page
+ * or an award, 10 for a book or a table that is written. Which of the two texts a 1 or a 2 is about, boccelarch_write_table tells. */
 enum boccelarch_refusal {
     BOCCELARCH_ACCEPTED = 0,
     BOCCELARCH_TEXT_LENGTH = 1,    /* the text is longer than 4,096 bytes: 4096 */
@@ -50,7 +62,8 @@ enum boccelarch_refusal {
     BOCCELARCH_NEGATIVE_PRICE = 8, /* a negative price at a start, without carriage: the line */
     BOCCELARCH_NOT_COVERED = 9,    /* no allocation meets the demand exactly: 0 */
     BOCCELARCH_OUTPUT_LENGTH = 10, /* the output is too short: the bytes needed */
-    BOCCELARCH_SPLIT_QUANTITY = 11 /* a quantity missing, neither 0 nor on a segment, or one too many: the line */
+    BOCCELARCH_SPLIT_QUANTITY = 11, /* a quantity missing, neither 0 nor on a segment, or one too many: the line */
+    BOCCELARCH_SAMPLING_TABLE = 12 /* a band of a sampling table that breaks a rule: the first such line */
 };
 
 /* The longest text; a caller reads one byte more, to see that a text is too long. */
@@ -107,6 +120,26 @@ enum boccelarch_column {
 
 uint64_t boccelarch_award(const uint8_t *text, size_t text_length, uint64_t *rows, size_t rows_length, uint64_t *place, uint64_t *total,
                           uint64_t *count);
+
+/* The sheet, the page and the award likewise, sampled by a table that is passed before the book. The table is refused by 1, 2 and 12 before
+ * anything of the book. BOCCELARCH_SHEET_BYTES and BOCCELARCH_PAGE_BYTES are enough with every table. */
+uint64_t boccelarch_sheet_by_table(const uint8_t *table, size_t table_length, const uint8_t *text, size_t text_length, uint8_t *out,
+                                   size_t out_length, uint64_t *place, uint64_t *bytes);
+uint64_t boccelarch_page_by_table(const uint8_t *table, size_t table_length, const uint8_t *text, size_t text_length, uint8_t *out,
+                                  size_t out_length, uint64_t *place, uint64_t *bytes);
+uint64_t boccelarch_award_by_table(const uint8_t *table, size_t table_length, const uint8_t *text, size_t text_length, uint64_t *rows,
+                                   size_t rows_length, uint64_t *place, uint64_t *total, uint64_t *count);
+
+/* Enough for every table that passes. */
+#define BOCCELARCH_TABLE_BYTES 336
+
+/* A table written out again, and its length in bytes: of an accepted text, the same text. Refused by 1, 2, 12 and 10, so that it tells
+ * whether a table passes. */
+uint64_t boccelarch_write_table(const uint8_t *table, size_t table_length, uint8_t *out, size_t out_length, uint64_t *place, uint64_t *bytes);
+
+/* The printed table as text, and its length in bytes, for a caller to start from. Refused by 10 alone. With it as the table every answer is
+ * that of the function without one. */
+uint64_t boccelarch_printed_table(uint8_t *out, size_t out_length, uint64_t *place, uint64_t *bytes);
 
 #ifdef __cplusplus
 }

@@ -268,7 +268,7 @@ def check_edits():
 def asking(crate):
     """The public functions of a library that have a `requires`."""
     files = glob.glob(f"crates/{crate}/src/**/*.rt", recursive=True)
-    heads = [head for path in files for head in re.findall(r"^pub (?:extern \"C\" )?fn .*?^\{", uncommented(path), re.S | re.M)]
+    heads = [head for path in files for head in re.findall(r"^pub (?:extern \"C\" )?fn .*?\{$", uncommented(path), re.S | re.M)]
     return [name for head in heads if "requires" in head for name in re.findall(r"fn (\w+)", head)[:1] if name in edits.public(crate)]
 
 

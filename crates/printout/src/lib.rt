@@ -6,8 +6,12 @@ ghost use lib.ListN.{length, take};
 ghost use Rattle.refusal.specs.declared.Verdict.the-variants.{Accepted};
 ghost use Rattle.output.specs.Writing.{writtenOf, outputAfter};
 ghost use Rattle.awardwriter.specs.Layout.{layoutText};
-ghost use Rattle.tender.specs.FromText.{clearedByTable, printedAs, clearedByPrinted};
+ghost use Rattle.tender.specs.FromText.{printedAs, clearedByPrinted};
+
+mod by_table;
+
 use awardwriter::Layout;
+pub use by_table::print_by_table;
 use clearing::Clearing;
 use output::TextWritten;
 use refusal::Verdict;
@@ -33,17 +37,6 @@ pub fn print(layout: Layout, text: &[u8], out: &mut [u8]) -> usize
     ensures { λ r. ⌜ r ≤ length (now (out .exit)) ⌝ }
 {
     let cleared = tender::clear(text);
-    let written = write(layout, cleared, out);
-    written.bytes as usize
-}
-
-// The same, sampled by the table of a text.
-pub fn print_by_table(layout: Layout, table: &[u8], text: &[u8], out: &mut [u8]) -> usize
-    requires { ⌜ length (now out) ≡ 600 ⌝ }
-    ensures { λ r. ⌜ take r (now (out .exit)) ≡ printedAs (layoutText layout) (clearedByTable (now (table .entry)) (now (text .entry))) ⌝ }
-    ensures { λ r. ⌜ r ≤ length (now (out .exit)) ⌝ }
-{
-    let cleared = tender::clear_by_table(table, text);
     let written = write(layout, cleared, out);
     written.bytes as usize
 }

@@ -24,6 +24,6 @@ pub fn printed_table(out: &mut [u8]) -> TextWritten
     ensures { λ r. ⌜ r ≡ printedWritten (length (now (out .entry))) ⌝ }
     ensures { λ r. ⌜ now (out .exit) ≡ printedOutput (now (out .entry)) ⌝ }
 {
-    let table = sampling::printed();
-    tablewriter::write(table, out)
+    let printed = sampling::printed();
+    tablewriter::write(printed, out)
 }

@@ -1,6 +1,6 @@
 // Reading a sampling table from its text.
 ghost use mathlib.Core.Path.{_≡_};
-ghost use Rattle.tablereader.specs.Reading.{refusedTable, readTableOf, printedRead};
+ghost use Rattle.tablereader.specs.Reading.{refusedTable, readTableOf};
 use refusal::Rule;
 use refusal::Verdict;
 use sampling::Table;
@@ -46,15 +46,4 @@ pub fn read(text: &[u8]) -> TableRead
         return refused(rule, line);
     }
     TableRead { verdict, table }
-}
-
-// The printed table, as it would be read from its text.
-pub fn printed() -> TableRead
-    ensures { λ r. ⌜ r ≡ printedRead ⌝ }
-{
-    let table = sampling::printed();
-    TableRead {
-        verdict: Verdict::Accepted,
-        table,
-    }
 }

@@ -1,7 +1,7 @@
 // The award of a text.
 ghost use mathlib.Core.Path.{_≡_};
 ghost use Rattle.sampling.specs.Entries.{tableEntries};
-ghost use Rattle.tender.specs.FromText.{clearText, clearedByTable, clearedByPrinted};
+ghost use Rattle.tender.specs.FromText.{clearText, clearedByPrinted};
 use clearing::Clearing;
 use refusal::Verdict;
 use sampling::Table;
@@ -25,17 +25,4 @@ pub fn clear(text: &[u8]) -> Clearing
 {
     let table = sampling::printed();
     clear_sampled(table, text)
-}
-
-// The award of a text's book, sampled by the table of a text: refused as reading refuses the table, then as `clear` refuses the book.
-pub fn clear_by_table(table: &[u8], text: &[u8]) -> Clearing
-    ensures { λ r. ⌜ r ≡ clearedByTable (now (table .entry)) (now (text .entry)) ⌝ }
-{
-    let read = tablereader::read(table);
-    let verdict = read.verdict;
-    if let Verdict::Refused(_, _) = verdict {
-        return clearing::refused(verdict);
-    }
-    let loaded = read.table;
-    clear_sampled(loaded, text)
 }

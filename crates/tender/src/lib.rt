@@ -4,16 +4,17 @@
 
 // The modules are private: the functions named here are the entries. Those of `bookanswers` and `tableanswers` clear nothing.
 mod awards;
+mod by_table;
 mod written;
 
 pub use awards::clear;
-pub use awards::clear_by_table;
 pub use bookanswers::price_split;
 pub use bookanswers::room;
 pub use bookanswers::write;
+pub use by_table::clear_by_table;
+pub use by_table::page_by_table;
+pub use by_table::sheet_by_table;
 pub use tableanswers::printed_table;
 pub use tableanswers::write_table;
 pub use written::page;
-pub use written::page_by_table;
 pub use written::sheet;
-pub use written::sheet_by_table;

@@ -1,12 +1,9 @@
 // The award of a text, written as a sheet or as a page.
 ghost use mathlib.Core.Path.{_≡_};
 ghost use lib.ListN.{length};
-ghost use Rattle.sheettext.specs.Sheet.{sheetText};
-ghost use Rattle.pagetext.specs.Page.{pageText};
 ghost use Rattle.awardwriter.specs.Layout.{layoutText};
-ghost use Rattle.tender.specs.FromText.{clearedByTable, writtenAs, outputAs, sheetWritten, sheetOutput, pageWritten, pageOutput};
+ghost use Rattle.tender.specs.FromText.{writtenAs, outputAs, sheetWritten, sheetOutput, pageWritten, pageOutput};
 use crate::awards::clear;
-use crate::awards::clear_by_table;
 use awardwriter::Layout;
 use clearing::Clearing;
 use output::TextWritten;
@@ -14,7 +11,7 @@ use refusal::Verdict;
 
 // Writes what was cleared at the beginning of the output: refused as it was cleared, then by 10 with the bytes needed. With a refusal the
 // output is unchanged.
-fn write_as(layout: Layout, cleared: Clearing, out: &mut [u8]) -> TextWritten
+pub fn write_as(layout: Layout, cleared: Clearing, out: &mut [u8]) -> TextWritten
     ensures { λ r. ⌜ r ≡ writtenAs (layoutText layout) cleared (length (now (out .entry))) ⌝ }
     ensures { λ r. ⌜ now (out .exit) ≡ outputAs (layoutText layout) cleared (now (out .entry)) ⌝ }
 {
@@ -41,23 +38,5 @@ pub fn page(text: &[u8], out: &mut [u8]) -> TextWritten
     ensures { λ r. ⌜ now (out .exit) ≡ pageOutput (now (text .entry)) (now (out .entry)) ⌝ }
 {
     let cleared = clear(text);
-    write_as(Layout::Page, cleared, out)
-}
-
-// Writes the award sheet of a text's book, sampled by the table of a text.
-pub fn sheet_by_table(table: &[u8], text: &[u8], out: &mut [u8]) -> TextWritten
-    ensures { λ r. ⌜ r ≡ writtenAs sheetText (clearedByTable (now (table .entry)) (now (text .entry))) (length (now (out .entry))) ⌝ }
-    ensures { λ r. ⌜ now (out .exit) ≡ outputAs sheetText (clearedByTable (now (table .entry)) (now (text .entry))) (now (out .entry)) ⌝ }
-{
-    let cleared = clear_by_table(table, text);
-    write_as(Layout::Sheet, cleared, out)
-}
-
-// Writes the page of the award likewise.
-pub fn page_by_table(table: &[u8], text: &[u8], out: &mut [u8]) -> TextWritten
-    ensures { λ r. ⌜ r ≡ writtenAs pageText (clearedByTable (now (table .entry)) (now (text .entry))) (length (now (out .entry))) ⌝ }
-    ensures { λ r. ⌜ now (out .exit) ≡ outputAs pageText (clearedByTable (now (table .entry)) (now (text .entry))) (now (out .entry)) ⌝ }
-{
-    let cleared = clear_by_table(table, text);
     write_as(Layout::Page, cleared, out)
 }

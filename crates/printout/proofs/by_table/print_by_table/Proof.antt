@@ -1,8 +1,8 @@
 -- 600 bytes hold what is printed for every table and every text, so that all of it is written.
 use borrow.Author.Needs.{needs}
 use Rattle.printout.proofs.Printed.{fits-by-table, all-printed}
-use Rattle.printout.proofs.print_by_table.Statement.{statement}
-use Rattle.printout.proofs.print_by_table.Tie as tie
+use Rattle.printout.proofs.by_table.print_by_table.Statement.{statement}
+use Rattle.printout.proofs.by_table.print_by_table.Tie as tie
 
 returns : tie.Need-returns
 returns c =

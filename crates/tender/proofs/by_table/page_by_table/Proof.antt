@@ -2,8 +2,8 @@
 use borrow.Author.Needs.{needs}
 use Rattle.pagetext.specs.Page.{pageText}
 use Rattle.tender.proofs.Said.{said-of}
-use Rattle.tender.proofs.written.page_by_table.Statement.{statement}
-use Rattle.tender.proofs.written.page_by_table.Tie as tie
+use Rattle.tender.proofs.by_table.page_by_table.Statement.{statement}
+use Rattle.tender.proofs.by_table.page_by_table.Tie as tie
 
 returns : tie.Need-returns
 returns c = said-of pageText (c .before .before .before .before .clear-by-table .ensures) _ (c .before .before .write-as .ensures)
