@@ -1,10 +1,11 @@
 // Runs the cases of document 01, section "Cases", and others at the edges of the rules, and prints what it gets. The cases stand in
 // stdin, which begins with how they are written, and what is to be printed in stdout.
 
-// Standard input cut into cases; answers about texts and records, and how they are printed.
+// Standard input cut into cases; answers about texts, records and sampling tables, and how they are printed.
 mod pieces;
 mod records;
 mod show;
+mod tables;
 mod texts;
 
 fn main() {
@@ -13,7 +14,7 @@ fn main() {
     run(&bytes[..n]);
 }
 
-// Answers each case; the text or the record that it is about begins at `about`.
+// Answers each case; the text, the record or the table that it is about begins at `about`.
 fn run(bytes: &[u8]) {
     let mut about: usize = 0;
     let mut at = pieces::place(bytes, 0, b'%');
@@ -25,10 +26,10 @@ fn run(bytes: &[u8]) {
     }
 }
 
-// Where the text or the record begins that a case is about: at the case, if it is one, or where it began before.
+// Where the text, the record or the table begins that a case is about: at the case, if it is one, or where it began before.
 fn subject(bytes: &[u8], before: usize, at: usize) -> usize {
     match pieces::byte(bytes, at) {
-        b't' | b'b' => at,
+        b't' | b'b' | b'l' => at,
         _ => before,
     }
 }
@@ -43,7 +44,12 @@ fn answer(bytes: &[u8], about: usize, at: usize) {
     let size = (numbers[1] % 600) as usize;
     let quantities = pieces::to_last(&numbers, last);
     let mut out = [b'.'; 600];
-    if pieces::byte(bytes, about) == b't' {
+    let kind = pieces::byte(bytes, about);
+    if kind == b'l' {
+        tables::answer(line, body, quantities, &mut out[0..size]);
+        return;
+    }
+    if kind == b't' {
         texts::answer(line, body, quantities, &mut out[0..size]);
         return;
     }
