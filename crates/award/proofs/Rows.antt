@@ -4,11 +4,11 @@ use mathlib.Core.Path.{_≡_}
 use Rattle.money.specs.declared.Blanks.{Blanks}
 use Rattle.money.specs.declared.Cents.{Cents}
 use Rattle.book.specs.Entries.{BidEntries}
+use Rattle.sampling.specs.Entries.{TableEntries}
+use Rattle.sampling.specs.Sampling.{sampleOf}
 use Rattle.supply.specs.Supply.{supplyOf, priceAt, segmentNumber}
 use Rattle.supply.specs.Curve.{curveOf, NoCarriage}
 use Rattle.supply.proofs.Carriage.{supply-curve}
-use Rattle.sampling.specs.Entries.{TableEntries}
-use Rattle.sampling.specs.Sampling.{sampleOf}
 use Rattle.award.specs.declared.Total.{Total}
 use Rattle.award.specs.declared.Row.{Row}
 use Rattle.award.specs.Award.{rowOf}

@@ -3,9 +3,9 @@ use Prim.Native.Nat.{ℕ}
 use lib.IntN.{pos}
 use lib.ListN.{replicate}
 use Rattle.book.specs.Entries.{BidEntries}
-use Rattle.supply.specs.Supply.{supplyOf, priceAt, segmentNumber}
 use Rattle.sampling.specs.Entries.{TableEntries}
 use Rattle.sampling.specs.Sampling.{sampleOf}
+use Rattle.supply.specs.Supply.{supplyOf, priceAt, segmentNumber}
 use Rattle.award.specs.declared.Total.{Total}
 use Rattle.award.specs.declared.Total.the-variants.{Nothing}
 use Rattle.award.specs.declared.Row.{Row}

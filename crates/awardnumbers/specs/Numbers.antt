@@ -12,8 +12,8 @@ use Rattle.refusal.specs.declared.Verdict.{Verdict}
 use Rattle.refusal.specs.declared.Verdict.the-variants.{Accepted}
 use Rattle.printer.specs.Written.{written}
 use Rattle.clearing.specs.declared.Clearing.{Clearing}
-use Rattle.rownumbers.specs.RowNumbers.{awardNumbers}
 use Rattle.tender.specs.FromText.{clearedByPrinted}
+use Rattle.rownumbers.specs.RowNumbers.{awardNumbers}
 use Rattle.awardnumbers.specs.declared.AwardNumbers.{AwardNumbers}
 
 -- ---- of what was cleared

@@ -2,16 +2,13 @@
 use Prim.Native.Nat.{ℕ, zero, suc, _≤_, _<_}
 use native.Mathlib.Nat.{le-of-suc-le-suc, not-suc-le-zero}
 use native.Mathlib.Omega.{arith}
-use mathlib.Core.Bool.{Bool, true, false, cond, _&&_}
+use mathlib.Core.Bool.{true}
 use mathlib.Core.List.{List, [], _∷_}
 use mathlib.Core.Option.{Option, some, none}
 use mathlib.Core.Path.{_≡_, refl, sym, subst}
-use borrow.Author.Tests.{leb-true}
-use lib.Dec.{leb, ltb}
 use lib.ListN.{length, getD}
 use Rattle.lists.specs.All.{All}
-use Rattle.lists.specs.Every.{every}
-use Rattle.lists.proofs.All.{all-at, all-tested}
+use Rattle.lists.proofs.All.{all-at}
 use Rattle.lists.proofs.Slices.{take-most}
 use Rattle.lists.proofs.Removed.{length-removed, all-removed}
 use Rattle.refusal.specs.declared.Verdict.the-variants.{Accepted}
@@ -22,12 +19,12 @@ use Rattle.book.specs.Accepted.{AcceptedBid}
 use Rattle.book.proofs.Records.{noBid}
 use Rattle.book.proofs.Bids.{entry-at}
 use Rattle.book.proofs.Accepted.{book-accepted, all-accepted, accepted-at}
+use Rattle.sampling.specs.Entries.{TableEntries}
+use Rattle.sampling.specs.Sampling.{sampleOf}
 use Rattle.supply.specs.Supply.{supplyOf, suppliesOf, offers}
 use Rattle.supply.specs.Sound.{mostBlanks}
 use Rattle.supply.proofs.Supply.{number-few}
 use Rattle.supply.proofs.Accepted.{mostCents, supply-small}
-use Rattle.sampling.specs.Entries.{TableEntries}
-use Rattle.sampling.specs.Sampling.{sampleOf}
 use Rattle.divisions.specs.Division.{Allocation}
 use Rattle.divisions.specs.Award.{Priced, awardOfBook}
 use Rattle.award.specs.declared.Total.{Total}

@@ -8,29 +8,29 @@ use mathlib.Core.Option.{Option, some, none}
 use mathlib.Core.Path.{_≡_, refl, sym, ap, _∙_, subst}
 use lib.IntN.{ℤ}
 use lib.ListN.{length, getD, length-map, drop-of-length-le}
+use Rattle.money.specs.declared.Cents.{Cents}
 use Rattle.refusal.specs.declared.Rule.the-variants.{NotCovered}
 use Rattle.refusal.specs.declared.Verdict.the-variants.{Accepted, Refused}
-use Rattle.money.specs.declared.Cents.{Cents}
 use Rattle.book.specs.declared.Book.{Book}
 use Rattle.book.specs.Entries.{BidEntries, BookEntries, bidEntries, bookEntries}
 use Rattle.book.specs.Rules.{bookVerdict}
 use Rattle.book.proofs.Records.{noBid}
 use Rattle.book.proofs.Accepted.{book-accepted, all-accepted}
+use Rattle.sampling.specs.Entries.{TableEntries}
 use Rattle.supply.specs.Supply.{suppliesOf}
 use Rattle.supply.specs.Allocation.{bought}
-use Rattle.sampling.specs.Entries.{TableEntries}
+use Rattle.supply.proofs.Accepted.{sound-supplies}
 use Rattle.divisions.specs.Division.{Allocation}
 use Rattle.divisions.specs.Award.{Priced, awardOfBook}
 use Rattle.divisions.specs.IsAward.{insideCount}
 use Rattle.divisions.proofs.Award.{as-many, award-is, no-award-iff}
-use Rattle.supply.proofs.Accepted.{sound-supplies}
 use Rattle.choices.proofs.OneInside.{at-most-one-inside}
 use Rattle.award.specs.declared.Total.the-variants.{Amount, Nothing}
 use Rattle.award.specs.declared.Row.{Row}
 use Rattle.award.specs.Award.{noRow, rowOf}
-use Rattle.clearing.specs.declared.Clearing.{Clearing}
 use Rattle.without.specs.Without.{bookWithout, totalOf, totalWithout}
 use Rattle.without.proofs.Same.{same-total}
+use Rattle.clearing.specs.declared.Clearing.{Clearing}
 use Rattle.clearing.specs.Clearing.{clearOf}
 use Rattle.clearing.proofs.Answers.{no-division, division}
 use Rattle.awardtheorems.specs.OfBook.{DivisionOf, IsAwardOf}

@@ -3,20 +3,19 @@
 use Prim.Native.Nat.{ℕ, _≤_, _<_}
 use native.Mathlib.Omega.{arith}
 use mathlib.Core.Path.{_≡_, sym, ap, _∙_, subst}
-use lib.ListN.{length, getD}
+use lib.ListN.{length}
 use Rattle.refusal.specs.declared.Verdict.the-variants.{Accepted}
 use Rattle.book.specs.declared.Book.{Book}
-use Rattle.book.specs.Entries.{BookEntries, bookEntries}
+use Rattle.book.specs.Entries.{bookEntries}
 use Rattle.sampling.specs.Entries.{TableEntries}
 use Rattle.sampling.specs.Bands.{bandAt, LiesIn}
 use Rattle.sampling.specs.Sampling.{sampleOf}
 use Rattle.sampling.specs.Rules.{tableVerdict}
 use Rattle.tablerules.proofs.Passing.{zero-samples-zero, every-quantity-lies, sample-in-band, sample-at-most, sample-small}
-use Rattle.supply.specs.Sound.{mostBlanks}
 use Rattle.award.specs.declared.Row.{Row}
 use Rattle.award.specs.Award.{rowOf}
 use Rattle.clearing.specs.Clearing.{clearOf}
-use Rattle.awardtheorems.specs.Awarded.{rowAt, awarded}
+use Rattle.awardtheorems.specs.Awarded.{rowAt}
 use Rattle.awardtheorems.proofs.Cleared.{row-is}
 use Rattle.awardtheorems.proofs.Amounts.{rows-up-to}
 

@@ -12,15 +12,15 @@ use Rattle.refusal.specs.declared.Verdict.the-variants.{Accepted, Refused}
 use Rattle.book.specs.declared.Book.{Book}
 use Rattle.book.specs.Entries.{BookEntries, bookEntries}
 use Rattle.book.specs.Rules.{bookVerdict}
-use Rattle.supply.specs.Supply.{suppliesOf}
 use Rattle.sampling.specs.Entries.{TableEntries}
+use Rattle.supply.specs.Supply.{suppliesOf}
 use Rattle.divisions.specs.Award.{Priced, awardOf, awardOfBook}
 use Rattle.comparison.specs.declared.MaybeDivision.{MaybeDivision}
 use Rattle.comparison.specs.Records.{blanksIn, divisionIn, found}
 use Rattle.award.specs.declared.Row.{Row}
 use Rattle.award.specs.Award.{noRow}
-use Rattle.clearing.specs.declared.Clearing.{Clearing}
 use Rattle.without.proofs.Found.{award-none}
+use Rattle.clearing.specs.declared.Clearing.{Clearing}
 use Rattle.clearing.specs.Clearing.{rowsFrom, awardRecord, refusedClearing, clearedBook, clearOf, BookAward}
 
 -- A book's own refusal, no division, or an award.

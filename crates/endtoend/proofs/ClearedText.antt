@@ -6,21 +6,21 @@ use mathlib.Core.Path.{_≡_, refl, sym, ap, _∙_, subst}
 use lib.ListN.{length, getD}
 use Rattle.refusal.specs.declared.Verdict.{Verdict}
 use Rattle.refusal.specs.declared.Verdict.the-variants.{Accepted, Refused}
+use Rattle.refusal.proofs.Firsts.{refused-not}
 use Rattle.book.specs.declared.Book.{Book}
 use Rattle.book.specs.Rules.{bookVerdict}
 use Rattle.book.specs.Entries.{BookEntries, bookEntries}
 use Rattle.forms.specs.Shape.{answer}
 use Rattle.bookreader.specs.Reading.{readOf}
-use Rattle.refusal.proofs.Firsts.{refused-not}
+use Rattle.sampling.specs.Entries.{TableEntries}
 use Rattle.roundtrip.proofs.Reading.{accepted-as}
 use Rattle.roundtrip.proofs.Back.{text-read, zeros-past, book-accepted, arrays-read}
-use Rattle.sampling.specs.Entries.{TableEntries}
 use Rattle.divisions.specs.Award.{Priced, awardOfBook}
 use Rattle.award.specs.declared.Award.{Award}
 use Rattle.award.specs.declared.Row.{Row}
 use Rattle.award.specs.Award.{rowOf}
-use Rattle.clearing.specs.declared.Clearing.{Clearing}
 use Rattle.without.specs.Without.{bookWithout, totalOf}
+use Rattle.clearing.specs.declared.Clearing.{Clearing}
 use Rattle.clearing.specs.Clearing.{awardRecord, clearOf}
 use Rattle.awardtheorems.specs.Awarded.{rowAt, awarded}
 use Rattle.awardtheorems.proofs.Answers.{cleared}

@@ -20,8 +20,8 @@ use Rattle.book.proofs.Refusals.{never-by}
 use Rattle.booktext.specs.Record.{bookRecord}
 use Rattle.output.specs.declared.TextWritten.{TextWritten}
 use Rattle.sampling.specs.Entries.{TableEntries}
-use Rattle.sheettext.specs.Sheet.{sheetText}
 use Rattle.awardtheorems.specs.Awarded.{awarded}
+use Rattle.sheettext.specs.Sheet.{sheetText}
 use Rattle.bookanswers.specs.BookAnswers.{bookOf}
 use Rattle.tender.specs.FromText.{clearText, writtenAs}
 use Rattle.awardnumbers.specs.Numbers.{numbersVerdict}

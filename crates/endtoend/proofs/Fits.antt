@@ -11,29 +11,29 @@ use Rattle.lists.specs.All.{All}
 use Rattle.lists.proofs.All.{all-indexed}
 use Rattle.lists.proofs.Joined.{joined-short}
 use Rattle.lists.proofs.Slices.{take-most}
-use Rattle.forms.specs.Digits.{signedDigits}
-use Rattle.forms.proofs.Digits.{length-below}
 use Rattle.refusal.specs.declared.Rule.the-variants.{OutputLength}
 use Rattle.refusal.specs.declared.Verdict.the-variants.{Accepted, Refused}
 use Rattle.book.specs.declared.Book.{Book}
 use Rattle.book.specs.Entries.{BookEntries, bookEntries}
-use Rattle.supply.specs.Sound.{mostBlanks}
 use Rattle.book.proofs.Accepted.{book-accepted}
+use Rattle.forms.specs.Digits.{signedDigits}
+use Rattle.forms.proofs.Digits.{length-below}
 use Rattle.sampling.specs.Entries.{TableEntries}
 use Rattle.sampling.specs.Sampling.{printedTable}
 use Rattle.tablerules.proofs.Passing.{printed-passes, sample-small}
+use Rattle.supply.specs.Sound.{mostBlanks}
 use Rattle.award.specs.declared.Total.{Total}
 use Rattle.award.specs.declared.Total.the-variants.{Amount, Nothing}
 use Rattle.award.specs.declared.Row.{Row}
 use Rattle.award.specs.declared.Award.{Award}
 use Rattle.award.specs.Award.{noRow}
-use Rattle.sheettext.specs.Sheet.{totalText, rowText, sheetText}
-use Rattle.sheettext.proofs.Sizes.{row-size, sheet-size}
 use Rattle.clearing.specs.Clearing.{clearOf}
 use Rattle.awardtheorems.specs.Awarded.{rowsOf, rowAt}
 use Rattle.awardtheorems.proofs.Answers.{cleared}
 use Rattle.awardtheorems.proofs.Costs.{NotNegative, UpTo, mostTotal}
 use Rattle.awardtheorems.proofs.Amounts.{SmallSamples, TotalUpTo, RowUpTo, demand-up-to, total-from-zero, rows-up-to}
+use Rattle.sheettext.specs.Sheet.{totalText, rowText, sheetText}
+use Rattle.sheettext.proofs.Sizes.{row-size, sheet-size}
 use Rattle.tender.specs.FromText.{clearText, clearedByPrinted, sheetWritten, clearPrints}
 use Rattle.endtoend.proofs.ClearedText.{the-award, of-records}
 use Rattle.endtoend.proofs.Places.{before-output}

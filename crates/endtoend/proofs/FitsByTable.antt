@@ -12,9 +12,9 @@ use Rattle.tablerules.proofs.Passing.{sample-small}
 use Rattle.tablereader.specs.Reading.{readTableOf}
 use Rattle.roundtrip.proofs.Tables.{table-passes, table-refused-by}
 use Rattle.award.specs.declared.Award.{Award}
-use Rattle.sheettext.specs.Sheet.{sheetText}
 use Rattle.clearing.specs.declared.Clearing.{Clearing}
 use Rattle.awardtheorems.proofs.Amounts.{SmallSamples}
+use Rattle.sheettext.specs.Sheet.{sheetText}
 use Rattle.tableanswers.specs.TableAnswers.{tableIn}
 use Rattle.tender.specs.FromText.{clearText, clearedByTable, writtenAs, printedAs}
 use Rattle.endtoend.proofs.Places.{OfText, BeforeOutput, before-output}

@@ -13,9 +13,9 @@ use Rattle.booktext.proofs.Records.{entries-of-record}
 use Rattle.bookreader.specs.declared.BookRead.{BookRead}
 use Rattle.bookreader.specs.Reading.{bookAnswer, readOf}
 use Rattle.bookreader.proofs.Answers.{read-text, read-long, accepted-answer}
+use Rattle.sampling.specs.Entries.{TableEntries}
 use Rattle.roundtrip.specs.NotOfShape.{NotOfShape}
 use Rattle.roundtrip.proofs.Reading.{place-refused}
-use Rattle.sampling.specs.Entries.{TableEntries}
 use Rattle.award.specs.declared.Award.{Award}
 use Rattle.clearing.specs.declared.Clearing.{Clearing}
 use Rattle.clearing.specs.Clearing.{clearOf}

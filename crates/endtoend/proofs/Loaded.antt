@@ -5,13 +5,13 @@ use mathlib.Core.Path.{_≡_, refl, sym, ap, _∙_, subst}
 use Rattle.refusal.specs.declared.Rule.{Rule}
 use Rattle.refusal.specs.declared.Verdict.{Verdict}
 use Rattle.refusal.specs.declared.Verdict.the-variants.{Accepted, Refused}
+use Rattle.textreading.proofs.Answers.{read-text, accepted-answer}
 use Rattle.sampling.specs.Entries.{TableEntries, tableEntries}
 use Rattle.sampling.specs.Sampling.{printedTable}
 use Rattle.sampling.specs.Rules.{tableVerdict}
 use Rattle.tabletext.specs.TableText.{tableText}
 use Rattle.tabletext.specs.Record.{tableRecord}
 use Rattle.tabletext.proofs.Records.{entries-of-record}
-use Rattle.textreading.proofs.Answers.{read-text, accepted-answer}
 use Rattle.tablereader.specs.declared.TableRead.{TableRead}
 use Rattle.tablereader.specs.Reading.{readTableOf}
 use Rattle.tablereader.proofs.Answers.{tables}

@@ -5,7 +5,6 @@ use mathlib.Core.List.{List}
 use mathlib.Core.Path.{_≡_, refl, sym, _∙_, subst}
 use borrow.Author.Tests.{le-leb}
 use lib.ListN.{length}
-use Rattle.forms.proofs.Digits.{length-below}
 use Rattle.refusal.specs.Number.{ruleNumber}
 use Rattle.refusal.specs.declared.Rule.{Rule}
 use Rattle.refusal.specs.declared.Rule.the-variants.{OutputLength}
@@ -13,11 +12,12 @@ use Rattle.refusal.specs.declared.Verdict.{Verdict}
 use Rattle.refusal.specs.declared.Verdict.the-variants.{Accepted, Refused}
 use Rattle.refusal.proofs.Numbers.{two-digits}
 use Rattle.refusal.proofs.Refusals.{never-other}
+use Rattle.forms.proofs.Digits.{length-below}
 use Rattle.output.specs.Writing.{writingVerdict, writtenOf}
 use Rattle.award.specs.declared.Award.{Award}
+use Rattle.clearing.specs.declared.Clearing.{Clearing}
 use Rattle.sheettext.specs.Sheet.{refusalText}
 use Rattle.sheettext.proofs.Sizes.{refusal-size}
-use Rattle.clearing.specs.declared.Clearing.{Clearing}
 use Rattle.tender.specs.FromText.{writtenAs, printedAs}
 use Rattle.endtoend.proofs.Places.{BeforeOutput}
 

@@ -8,8 +8,8 @@ use lib.ListN.{length, getD, length-map}
 use lib.Seq.{getD-take, ext-getD}
 use Rattle.lists.proofs.Slices.{take-most}
 use Rattle.book.specs.Entries.{BookEntries}
-use Rattle.supply.specs.Supply.{suppliesOf}
 use Rattle.sampling.specs.Entries.{TableEntries}
+use Rattle.supply.specs.Supply.{suppliesOf}
 use Rattle.divisions.specs.Award.{Priced}
 use Rattle.divisions.proofs.Award.{as-many, only-award}
 use Rattle.award.specs.declared.Total.{Total}
@@ -17,11 +17,11 @@ use Rattle.award.specs.declared.Total.the-variants.{Amount, Nothing}
 use Rattle.award.specs.declared.Row.{Row}
 use Rattle.award.specs.declared.Award.{Award}
 use Rattle.award.specs.Award.{noRow, rowOf}
-use Rattle.sheettext.specs.Sheet.{firstText, sheetText}
-use Rattle.pagetext.specs.Page.{pageFirst, pageText}
 use Rattle.without.specs.Without.{bookWithout}
 use Rattle.awardtheorems.specs.OfBook.{IsAwardOf}
 use Rattle.awardtheorems.specs.Awarded.{rowsOf, rowAt, awarded}
+use Rattle.sheettext.specs.Sheet.{firstText, sheetText}
+use Rattle.pagetext.specs.Page.{pageFirst, pageText}
 use Rattle.endtoend.specs.TheAward.{TotalOf, bidAt, TheAward}
 use Rattle.endtoend.specs.Shown.{ShowsRowsOnly}
 

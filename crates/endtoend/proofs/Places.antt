@@ -21,9 +21,9 @@ use Rattle.forms.specs.Shape.{of-shape, not-of-shape, answer}
 use Rattle.booktext.specs.Record.{emptyBid, bidRecord, bookRecord}
 use Rattle.bookreader.specs.declared.BookRead.{BookRead}
 use Rattle.bookreader.specs.Reading.{bookAnswer, readOf}
+use Rattle.sampling.specs.Entries.{TableEntries}
 use Rattle.roundtrip.proofs.Reading.{Answered, by-length, by-reading, read-answered}
 use Rattle.roundtrip.proofs.Back.{book-accepted}
-use Rattle.sampling.specs.Entries.{TableEntries}
 use Rattle.divisions.specs.Award.{Priced, awardOfBook}
 use Rattle.clearing.specs.declared.Clearing.{Clearing}
 use Rattle.clearing.specs.Clearing.{clearOf}

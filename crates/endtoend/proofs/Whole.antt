@@ -18,14 +18,14 @@ use Rattle.forms.specs.Shape.{TextOf, of-shape, not-of-shape, answer}
 use Rattle.booktext.specs.BookText.{bookText}
 use Rattle.booktext.specs.WellFormed.{WellFormedBook}
 use Rattle.booktext.specs.Record.{bookRecord}
+use Rattle.bookreader.specs.declared.BookRead.{BookRead}
+use Rattle.bookreader.specs.Reading.{bookAnswer, readOf}
 use Rattle.printer.specs.Written.{written}
 use Rattle.output.specs.Writing.{notWritten, allWritten}
 use Rattle.output.proofs.Answers.{refused-before, too-short, in-full}
-use Rattle.bookreader.specs.declared.BookRead.{BookRead}
-use Rattle.bookreader.specs.Reading.{bookAnswer, readOf}
+use Rattle.sampling.specs.Entries.{TableEntries}
 use Rattle.roundtrip.proofs.Reading.{Answered, by-length, by-reading, read-answered}
 use Rattle.roundtrip.proofs.Back.{book-accepted}
-use Rattle.sampling.specs.Entries.{TableEntries}
 use Rattle.divisions.specs.Award.{Priced, awardOfBook}
 use Rattle.award.specs.declared.Award.{Award}
 use Rattle.clearing.specs.declared.Clearing.{Clearing}

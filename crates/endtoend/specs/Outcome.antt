@@ -16,12 +16,12 @@ use Rattle.booktext.specs.BookText.{bookText}
 use Rattle.booktext.specs.WellFormed.{WellFormedBook}
 use Rattle.booktext.specs.Record.{bookRecord}
 use Rattle.printer.specs.Written.{written}
-use Rattle.roundtrip.specs.NotOfShape.{NotOfShape}
 use Rattle.sampling.specs.Entries.{TableEntries}
+use Rattle.roundtrip.specs.NotOfShape.{NotOfShape}
 use Rattle.award.specs.declared.Award.{Award}
-use Rattle.sheettext.specs.Sheet.{refusalText}
 use Rattle.clearing.specs.declared.Clearing.{Clearing}
 use Rattle.awardtheorems.specs.OfBook.{DivisionOf}
+use Rattle.sheettext.specs.Sheet.{refusalText}
 use Rattle.tender.specs.FromText.{writtenAs, outputAs, printedAs}
 use Rattle.endtoend.specs.TheAward.{TheAward}
 

@@ -4,8 +4,8 @@ use mathlib.Core.List.{List, []}
 use mathlib.Core.Path.{_≡_}
 use lib.ListN.{getD}
 use Rattle.book.specs.Entries.{BidEntries, BookEntries}
-use Rattle.supply.specs.Supply.{suppliesOf}
 use Rattle.sampling.specs.Entries.{TableEntries}
+use Rattle.supply.specs.Supply.{suppliesOf}
 use Rattle.divisions.specs.Award.{Priced}
 use Rattle.divisions.specs.IsAward.{insideCount}
 use Rattle.award.specs.declared.Total.{Total}

@@ -6,26 +6,26 @@ use lib.IntN.{ℤ, natAbs}
 use lib.ListN.{length}
 use Rattle.lists.specs.All.{All}
 use Rattle.lists.proofs.All.{all-from}
-use Rattle.forms.specs.Money.{moneyText}
-use Rattle.forms.proofs.Digits.{length-below}
-use Rattle.forms.proofs.Money.{money-below}
 use Rattle.refusal.specs.declared.Verdict.the-variants.{Accepted}
 use Rattle.book.specs.declared.Book.{Book}
 use Rattle.book.specs.Entries.{bookEntries}
-use Rattle.supply.proofs.Accepted.{mostCents}
+use Rattle.forms.specs.Money.{moneyText}
+use Rattle.forms.proofs.Digits.{length-below}
+use Rattle.forms.proofs.Money.{money-below}
 use Rattle.sampling.specs.Entries.{TableEntries}
+use Rattle.supply.proofs.Accepted.{mostCents}
 use Rattle.award.specs.declared.Total.{Total}
 use Rattle.award.specs.declared.Total.the-variants.{Amount, Nothing}
 use Rattle.award.specs.declared.Row.{Row}
 use Rattle.award.specs.declared.Award.{Award}
-use Rattle.pagetext.specs.Page.{pageTotal}
-use Rattle.pagetext.specs.Fits.{RowFits, PageFits}
-use Rattle.pagetext.proofs.Amounts.{TotalFromZero}
-use Rattle.pagetext.proofs.ReadBack.{RowFromZero, AwardFromZero}
 use Rattle.clearing.specs.Clearing.{clearOf}
 use Rattle.awardtheorems.specs.Awarded.{rowsOf}
 use Rattle.awardtheorems.proofs.Costs.{UpTo, mostTotal}
 use Rattle.awardtheorems.proofs.Amounts.{SmallSamples, TotalUpTo, RowUpTo, demand-up-to, total-from-zero}
+use Rattle.pagetext.specs.Page.{pageTotal}
+use Rattle.pagetext.specs.Fits.{RowFits, PageFits}
+use Rattle.pagetext.proofs.Amounts.{TotalFromZero}
+use Rattle.pagetext.proofs.ReadBack.{RowFromZero, AwardFromZero}
 use Rattle.endtoend.proofs.Fits.{every-row, each-up-to}
 
 -- an amount below 10 to the power 17 has at most 18 bytes

@@ -14,6 +14,8 @@ use Rattle.output.proofs.Answers.{accepted-before, text-written}
 use Rattle.sampling.specs.Entries.{TableEntries}
 use Rattle.sampling.specs.Sampling.{printedTable}
 use Rattle.award.specs.declared.Award.{Award}
+use Rattle.clearing.specs.Clearing.{clearOf}
+use Rattle.awardtheorems.proofs.Amounts.{SmallSamples}
 use Rattle.sheettext.specs.Sheet.{sheetText}
 use Rattle.pagetext.specs.Page.{pageText}
 use Rattle.pagetext.specs.ReadBack.{awardIn}
@@ -21,8 +23,6 @@ use Rattle.pagetext.specs.Fits.{PageLines}
 use Rattle.pagetext.specs.ThePage.{ThePage}
 use Rattle.pagetext.proofs.Page.{lines-length, page-lines}
 use Rattle.pagetext.proofs.ReadBack.{award-back}
-use Rattle.clearing.specs.Clearing.{clearOf}
-use Rattle.awardtheorems.proofs.Amounts.{SmallSamples}
 use Rattle.tender.specs.FromText.{clearText, clearedByTable, writtenAs, outputAs, printedAs, clearedByPrinted, sheetWritten, pageWritten, pageOutput, pagePrints}
 use Rattle.endtoend.proofs.ClearedText.{of-records}
 use Rattle.endtoend.proofs.Fits.{few, printed-small, sheet-verdict}

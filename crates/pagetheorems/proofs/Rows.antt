@@ -10,18 +10,18 @@ use Rattle.lists.proofs.Padded.{length-padded, take-count}
 use Rattle.refusal.specs.declared.Verdict.the-variants.{Accepted}
 use Rattle.book.specs.declared.Book.{Book}
 use Rattle.book.specs.Entries.{BookEntries, bookEntries}
-use Rattle.supply.specs.Supply.{suppliesOf}
 use Rattle.sampling.specs.Entries.{TableEntries}
+use Rattle.supply.specs.Supply.{suppliesOf}
 use Rattle.divisions.proofs.Award.{as-many}
 use Rattle.award.specs.declared.Row.{Row}
 use Rattle.award.specs.Award.{noRow}
-use Rattle.pagetext.proofs.ReadBack.{Complete}
 use Rattle.clearing.specs.declared.Clearing.{Clearing}
 use Rattle.clearing.specs.Clearing.{rowsFrom, awardRecord, clearOf}
 use Rattle.clearing.proofs.Made.{length-rows}
 use Rattle.awardtheorems.proofs.Answers.{Cleared, cleared}
 use Rattle.awardtheorems.proofs.Cleared.{award-of-book}
 use Rattle.awardtheorems.proofs.Counts.{few-bids, bids-counted}
+use Rattle.pagetext.proofs.ReadBack.{Complete}
 
 module _ (table : TableEntries) (book : Book) (held : length (book .bids) ≡ 8) (accepted : clearOf table (bookEntries book) .verdict ≡ Accepted) where
   abbrev b : BookEntries

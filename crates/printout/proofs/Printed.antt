@@ -7,10 +7,10 @@ use lib.ListN.{length, take}
 use Rattle.refusal.specs.declared.Verdict.the-variants.{Accepted}
 use Rattle.output.specs.declared.TextWritten.{TextWritten}
 use Rattle.output.proofs.Answers.{Answered, all-written}
+use Rattle.clearing.specs.declared.Clearing.{Clearing}
 use Rattle.awardwriter.specs.declared.Layout.{Layout}
 use Rattle.awardwriter.specs.declared.Layout.the-variants.{Sheet, Page}
 use Rattle.awardwriter.specs.Layout.{layoutText}
-use Rattle.clearing.specs.declared.Clearing.{Clearing}
 use Rattle.tender.specs.FromText.{clearedByTable, printedAs, clearedByPrinted}
 use Rattle.endtoend.proofs.Fits.{prints-fit}
 use Rattle.endtoend.proofs.FitsByTable.{prints-fit-by-table}

@@ -19,10 +19,10 @@ use Rattle.booktext.specs.Arrays.{SixSegments, Arrays}
 use Rattle.booktext.proofs.Accepted.{well-formed, same-record}
 use Rattle.booktext.proofs.Records.{entries-of-record, record-arrays}
 use Rattle.booktext.proofs.Room.{room-bounds, text-short}
-use Rattle.printer.specs.Written.{written}
-use Rattle.output.proofs.Answers as Output
 use Rattle.bookreader.specs.Reading.{readOf}
 use Rattle.bookreader.proofs.Answers.{books}
+use Rattle.printer.specs.Written.{written}
+use Rattle.output.proofs.Answers as Output
 use Rattle.bookwriter.specs.Writing.{textOf, writeVerdict, writeOf, outputOf}
 use Rattle.roundtrip.proofs.Texts as Any
 

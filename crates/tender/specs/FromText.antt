@@ -8,10 +8,10 @@ use Rattle.sampling.specs.Entries.{TableEntries}
 use Rattle.sampling.specs.Sampling.{printedTable}
 use Rattle.tablereader.specs.Reading.{readTableOf}
 use Rattle.award.specs.declared.Award.{Award}
-use Rattle.sheettext.specs.Sheet.{sheetText, refusalText}
-use Rattle.pagetext.specs.Page.{pageText}
 use Rattle.clearing.specs.declared.Clearing.{Clearing}
 use Rattle.clearing.specs.Clearing.{clearOf, refusedClearing}
+use Rattle.sheettext.specs.Sheet.{sheetText, refusalText}
+use Rattle.pagetext.specs.Page.{pageText}
 use Rattle.tableanswers.specs.TableAnswers.{tableIn}
 use Rattle.bookanswers.specs.BookAnswers.{answerOf}
 

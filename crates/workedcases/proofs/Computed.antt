@@ -3,17 +3,17 @@ use mathlib.Core.Bool.{true}
 use mathlib.Core.Path.{_≡_, refl}
 use Rattle.lists.specs.Every.{every}
 use Rattle.money.specs.Price.{priceOf}
-use Rattle.forms.specs.Digits.{digitsWithin, digits, signedDigits}
 use Rattle.book.specs.Rules.{segmentInRange, bidInRange, segmentsRise, startNotNegative, bidVerdict, bidsVerdict, bookVerdict}
+use Rattle.forms.specs.Digits.{digitsWithin, digits, signedDigits}
 use Rattle.booktext.specs.BookText.{segmentText, bidHead, bidText, bookHead, bookText}
-use Rattle.supply.specs.Supply.{supplyOf, on, priceAt, numberFrom, segmentNumber}
 use Rattle.sampling.specs.Sampling.{printedBands, sampleAbove, sampleOf}
+use Rattle.supply.specs.Supply.{supplyOf, on, priceAt, numberFrom, segmentNumber}
 use Rattle.divisions.specs.Award.{givesMore, better, pick}
 use Rattle.choices.specs.Choice.{fits, width, filled}
 use Rattle.choices.specs.Search.{each, leaf, search}
 use Rattle.award.specs.Award.{rowOf}
-use Rattle.sheettext.specs.Sheet.{totalText, rowText, firstText, sheetText, refusalText}
 use Rattle.without.specs.Without.{bookWithout}
+use Rattle.sheettext.specs.Sheet.{totalText, rowText, firstText, sheetText, refusalText}
 use Rattle.workedcases.specs.Table.{table}
 use Rattle.workedcases.proofs.Books.{books}
 use Rattle.workedcases.proofs.Bytes.{eqBytes}

@@ -15,17 +15,17 @@ use Rattle.book.specs.Entries.{BidEntries, BookEntries}
 use Rattle.book.specs.Rules.{bookVerdict}
 use Rattle.book.specs.Accepted.{AcceptedBid}
 use Rattle.book.proofs.Accepted.{all-accepted}
-use Rattle.supply.specs.Supply.{suppliesOf}
 use Rattle.sampling.specs.Entries.{TableEntries}
+use Rattle.supply.specs.Supply.{suppliesOf}
+use Rattle.supply.proofs.Accepted.{sound-supplies}
 use Rattle.divisions.specs.Award.{Priced, awardOfBook}
 use Rattle.choices.specs.Search.{searched}
-use Rattle.supply.proofs.Accepted.{sound-supplies}
 use Rattle.choices.proofs.Finds.{finds}
 use Rattle.award.specs.declared.Total.{Total}
 use Rattle.award.specs.declared.Row.{Row}
 use Rattle.award.specs.Award.{noRow, rowOf}
-use Rattle.clearing.specs.declared.Clearing.{Clearing}
 use Rattle.without.specs.Without.{bookWithout, totalOf, totalWithout}
+use Rattle.clearing.specs.declared.Clearing.{Clearing}
 use Rattle.clearing.specs.Clearing.{rowsFrom, awardRecord, clearedBook, clearOf, refusedClearing}
 
 abbrev searchedBook : BookEntries → Option Priced

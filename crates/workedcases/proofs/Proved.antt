@@ -14,9 +14,9 @@ use Rattle.bookreader.specs.declared.BookRead.{BookRead}
 use Rattle.bookreader.specs.Reading.{bookAnswer, readOf}
 use Rattle.bookreader.proofs.Answers.{read-text, accepted-answer}
 use Rattle.sampling.specs.Sampling.{printedTable}
-use Rattle.tender.specs.FromText.{clearText, clearedByPrinted, clearPrints, printedAs}
 use Rattle.clearing.specs.Clearing.{clearOf}
 use Rattle.clearing.proofs.Answers.{rules-first}
+use Rattle.tender.specs.FromText.{clearText, clearedByPrinted, clearPrints, printedAs}
 use Rattle.workedcases.specs.Table.{Case, table}
 use Rattle.workedcases.proofs.Model.{model-is}
 use Rattle.workedcases.proofs.Books.{books}

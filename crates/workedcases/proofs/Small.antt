@@ -10,10 +10,10 @@ use lib.IntN.{natAbs}
 use lib.ListN.{length}
 use Rattle.lists.specs.Every.{every}
 use Rattle.lists.proofs.All.{all-tested, all-from}
-use Rattle.forms.specs.Number.{ThirteenDigits}
-use Rattle.forms.proofs.Digits.{few-digits}
 use Rattle.book.specs.declared.Segment.{Segment}
 use Rattle.book.specs.Entries.{BidEntries, BookEntries}
+use Rattle.forms.specs.Number.{ThirteenDigits}
+use Rattle.forms.proofs.Digits.{few-digits}
 use Rattle.booktext.specs.WellFormed.{WellFormedSegment, WellFormedBid, WellFormedBook}
 use Rattle.workedcases.proofs.Hold.{hold, each-holds}
 

@@ -7,14 +7,14 @@ use borrow.Author.Tests.{leb-true}
 use lib.Dec.{leb}
 use lib.ListN.{length}
 use Rattle.refusal.specs.Checks.{whenAccepted}
-use Rattle.forms.specs.Shape.{TextOf}
 use Rattle.book.specs.Entries.{BookEntries, bookEntries}
+use Rattle.forms.specs.Shape.{TextOf}
 use Rattle.booktext.specs.BookText.{bookText}
 use Rattle.booktext.specs.Record.{bookRecord}
 use Rattle.booktext.specs.WellFormed.{WellFormedBook}
 use Rattle.sampling.specs.Sampling.{printedTable}
-use Rattle.sheettext.specs.Sheet.{sheetText, refusalText}
 use Rattle.clearing.specs.declared.Clearing.{Clearing}
+use Rattle.sheettext.specs.Sheet.{sheetText, refusalText}
 use Rattle.workedcases.specs.Table.{Case}
 use Rattle.workedcases.proofs.Model.{modelOf}
 use Rattle.workedcases.proofs.Hold.{hold, each-holds}

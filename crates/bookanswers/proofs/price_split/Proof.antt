@@ -5,10 +5,10 @@ use mathlib.Core.Path.{_∙_}
 use borrow.Author.Needs.{needs}
 use Rattle.book.specs.Entries.{bookEntries}
 use Rattle.bookreader.specs.declared.BookRead.{BookRead}
+use Rattle.output.proofs.Cases.{if-refused, if-accepted}
 use Rattle.split.specs.declared.SplitPrice.{SplitPrice}
 use Rattle.split.specs.Split.{splitOf, refusedSplit}
 use Rattle.bookanswers.specs.BookAnswers.{splitText}
-use Rattle.output.proofs.Cases.{if-refused, if-accepted}
 use Rattle.bookanswers.proofs.price_split.Statement.{statement}
 use Rattle.bookanswers.proofs.price_split.Tie as tie
 

@@ -7,9 +7,9 @@ use Rattle.book.specs.Entries.{bookEntries}
 use Rattle.book.specs.Rules.{bookVerdict}
 use Rattle.booktext.specs.BookText.{bookText}
 use Rattle.bookreader.specs.declared.BookRead.{BookRead}
+use Rattle.output.proofs.Cases.{none-written, text-written}
 use Rattle.roundtrip.proofs.Back.{book-accepted}
 use Rattle.bookanswers.specs.BookAnswers.{bookWritten, bookOutput}
-use Rattle.output.proofs.Cases.{none-written, text-written}
 use Rattle.bookanswers.proofs.write.Statement.{statement}
 use Rattle.bookanswers.proofs.write.Tie as tie
 

@@ -3,12 +3,12 @@ use Prim.Native.Nat.{ℕ}
 use mathlib.Core.List.{List}
 use mathlib.Core.Path.{refl, sym, ap, _∙_}
 use borrow.Author.Needs.{needs}
-use Rattle.sheettext.specs.Sheet.{refusalText}
+use Rattle.output.proofs.Cases.{if-refused, if-accepted, same-text}
 use Rattle.clearing.specs.declared.Clearing.{Clearing}
+use Rattle.sheettext.specs.Sheet.{refusalText}
 use Rattle.awardwriter.specs.declared.Layout.{Layout}
 use Rattle.awardwriter.specs.Layout.{layoutText}
 use Rattle.tender.specs.FromText.{printedAs}
-use Rattle.output.proofs.Cases.{if-refused, if-accepted, same-text}
 use Rattle.printout.proofs.write.Statement.{statement}
 use Rattle.printout.proofs.write.Tie as tie
 

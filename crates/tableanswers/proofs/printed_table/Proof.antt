@@ -2,11 +2,11 @@
 use mathlib.Core.Path.{refl, ap, _∙_}
 use borrow.Author.Needs.{needs}
 use Rattle.refusal.specs.declared.Verdict.the-variants.{Accepted}
+use Rattle.output.proofs.Cases.{text-written}
 use Rattle.sampling.specs.Rules.{tableVerdict}
 use Rattle.sampling.specs.Entries.{TableEntries}
 use Rattle.tablerules.proofs.Passing.{printed-passes}
 use Rattle.tabletext.specs.TableText.{tableText}
-use Rattle.output.proofs.Cases.{text-written}
 use Rattle.tableanswers.specs.TableAnswers.{printedWritten, printedOutput}
 use Rattle.tableanswers.proofs.printed_table.Statement.{statement}
 use Rattle.tableanswers.proofs.printed_table.Tie as tie

@@ -3,11 +3,11 @@ use mathlib.Core.Path.{_∙_}
 use borrow.Author.Needs.{needs}
 use Rattle.book.specs.Entries.{bookEntries}
 use Rattle.bookreader.specs.declared.BookRead.{BookRead}
+use Rattle.output.proofs.Cases.{if-refused, if-accepted}
 use Rattle.sampling.specs.Entries.{TableEntries}
 use Rattle.clearing.specs.declared.Clearing.{Clearing}
 use Rattle.clearing.specs.Clearing.{clearOf, refusedClearing}
 use Rattle.tender.specs.FromText.{clearText}
-use Rattle.output.proofs.Cases.{if-refused, if-accepted}
 use Rattle.tender.proofs.awards.clear_sampled.Statement.{statement}
 use Rattle.tender.proofs.awards.clear_sampled.Tie as tie
 

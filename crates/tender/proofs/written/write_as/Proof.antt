@@ -3,11 +3,11 @@ use mathlib.Core.List.{List}
 use Prim.Native.Nat.{ℕ}
 use mathlib.Core.Path.{refl}
 use borrow.Author.Needs.{needs}
+use Rattle.output.proofs.Cases.{none-written, text-written}
 use Rattle.clearing.specs.declared.Clearing.{Clearing}
 use Rattle.awardwriter.specs.declared.Layout.{Layout}
 use Rattle.awardwriter.specs.Layout.{layoutText}
 use Rattle.tender.specs.FromText.{writtenAs, outputAs}
-use Rattle.output.proofs.Cases.{none-written, text-written}
 use Rattle.tender.proofs.written.write_as.Statement.{statement}
 use Rattle.tender.proofs.written.write_as.Tie as tie
 
