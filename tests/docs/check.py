@@ -232,13 +232,13 @@ def cited_edits():
 
 
 def listed_entries():
-    """The entries of README.md's tables, as the functions that they are: what `tender` hands on is `bookanswers`'."""
+    """The entries of README.md's tables, as the functions that they are: what `tender` hands on is `bookanswers`' or `tableanswers`'."""
     for _, line in parts("README.md")[1]:
-        for name in re.findall(r"`([a-z]+::[a-z_]+|boccelarch_[a-z]+)`", line.split("|")[1] if line.startswith("| `") else ""):
+        for name in re.findall(r"`([a-z]+::[a-z_]+|boccelarch_[a-z_]+)`", line.split("|")[1] if line.startswith("| `") else ""):
             crate, _, function = name.rpartition("::")
             crate = crate or "boccelarch"
             if function not in edits.functions(crate):
-                crate = "bookanswers"
+                crate = next(other for other in ("bookanswers", "tableanswers") if function in edits.functions(other))
             yield f"{crate}::{function}"
 
 
