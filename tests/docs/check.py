@@ -9,8 +9,8 @@
 #   asks   CLAIMS.md lists every public function of a library that has a `requires`, and no other; no entry of README.md has one
 #   crate  ARCHITECTURE.md names every crate of crates.txt, and its table of groups no other
 #   layer  what is to be believed names nothing of proofs/: no definition of specs/ and no contract of src/, but for the exceptions below
-#   shut   a definition behind a name is opened by the proofs of its own crate alone, and of a bid's carriage the code names it only where it
-#          is read, written, checked and put into a price
+#   shut   a definition behind a name is opened by the proofs of its own crate alone, and the code names a bid's carriage only where it is
+#          read, written, checked and put into a price, the printed sampling table only where none is passed, or it is written
 #   proof  a Proof.antt begins with a comment, which says why the function meets its contract
 #   named  nothing that a file of specs/ or proofs/ declares or binds, and no parameter, field or local of the code, has the name of a
 #          function of the library, which a reader would take it for
@@ -366,7 +366,11 @@ def check_layers():
 # The crates whose proofs may open a definition: the P cases are worked out, so they open everything.
 OPENED_IN = {"supplyOf": ["supply", "workedcases"]}
 # The crates whose code may name a part of a bid, test programs with them; every other takes segments and prices from `supply`.
-NAMED_IN = {"carriage": ["money", "book", "bidrules", "bookrecord", "booklines", "bookwriter", "supply", "cases", "clearcases"]}
+NAMED_IN = {
+    "carriage": ["money", "book", "bidrules", "bookrecord", "booklines", "bookwriter", "supply", "cases", "clearcases"],
+    # who takes the printed sampling table: the entries that are passed none, and what writes it as text
+    "sampling::printed": ["clearing", "tender", "tableanswers", "cases"],
+}
 
 
 def crates_with(files, form):

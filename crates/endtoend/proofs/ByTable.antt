@@ -10,7 +10,7 @@ use Rattle.refusal.specs.declared.Verdict.{Verdict}
 use Rattle.refusal.specs.declared.Verdict.the-variants.{Accepted, Refused}
 use Rattle.forms.specs.Shape.{TextOf, of-shape, not-of-shape, answer}
 use Rattle.textreading.proofs.Answers.{read-text, read-long}
-use Rattle.textreading.proofs.Told.{Answered, by-length, by-reading, read-answered}
+use Rattle.textreading.proofs.Told.{Answered, by-length, by-reading, read-answered, accepted-as}
 use Rattle.sampling.specs.declared.Table.{Table}
 use Rattle.sampling.specs.Entries.{TableEntries, tableEntries}
 use Rattle.sampling.specs.Rules.{tableVerdict}
@@ -26,10 +26,11 @@ use Rattle.roundtrip.proofs.Tables.{table-text-read, table-passes, table-zeros-
 use Rattle.award.specs.declared.Award.{Award}
 use Rattle.clearing.specs.declared.Clearing.{Clearing}
 use Rattle.tableanswers.specs.TableAnswers.{tableIn}
-use Rattle.tender.specs.FromText.{clearedByTable}
-use Rattle.endtoend.specs.Outcome.{Outcome}
-use Rattle.endtoend.specs.ByTable.{tableTextVerdict, TableSays, AcceptedTable, RefusedByTable, OutcomeByTable, table-too-long, table-not-of-shape, table-broken, by-its-table}
+use Rattle.tender.specs.FromText.{clearedByTable, printedAs}
+use Rattle.endtoend.specs.Outcome.{Outcome, PrintOutcome}
+use Rattle.endtoend.specs.ByTable.{tableTextVerdict, TableSays, AcceptedTable, RefusedByTable, OutcomeByTable, table-too-long, table-not-of-shape, table-broken, by-its-table, PrintOutcomeByTable, table-line, printed-by-table}
 use Rattle.endtoend.proofs.Whole.{nothing-written, whole}
+use Rattle.endtoend.proofs.Prints.{prints}
 use Rattle.endtoend.proofs.Loaded.{refused-table, loaded-table}
 
 verdict-of : {r q : TableRead} → r ≡ q → r .verdict ≡ q .verdict
@@ -87,3 +88,15 @@ module _ (text : Award → List ℕ) (s t out : List ℕ) where
       go (by-reading h (of-shape e it) q) = of-shape-outcome h e it q
       go (by-reading h (not-of-shape n none it) q) =
           table-not-of-shape n (record { short = h; no-table = none; longest = it }) (refused Shape n (verdict-of q))
+
+-- and what a program prints, likewise
+pub prints-by-table : (text : Award → List ℕ) (s t : List ℕ) → PrintOutcomeByTable text s t
+unfolding printedAs
+prints-by-table text s t = go (readTableOf s .verdict) refl
+  where
+    go : (v : Verdict) → readTableOf s .verdict ≡ v → PrintOutcomeByTable text s t
+    go Accepted e =
+        printed-by-table (tableIn s) (its-table s (accepted-as tables s e .1 .short) e)
+        (subst (PrintOutcome text (tableIn s) t) (sym (loaded-table s t e)) (prints text (tableIn s) t))
+    go (Refused rule place) e =
+        table-line rule place (λ out. refused text s t out rule place e) (rw (refused-table s t rule place e))

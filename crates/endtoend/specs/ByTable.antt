@@ -16,8 +16,9 @@ use Rattle.tabletext.specs.WellFormed.{WellFormedTable}
 use Rattle.tabletext.specs.Record.{tableRecord}
 use Rattle.roundtrip.specs.NotTableShape.{NotTableShape}
 use Rattle.award.specs.declared.Award.{Award}
-use Rattle.tender.specs.FromText.{clearedByTable}
-use Rattle.endtoend.specs.Outcome.{NothingWritten, Outcome}
+use Rattle.sheettext.specs.Sheet.{refusalText}
+use Rattle.tender.specs.FromText.{clearedByTable, printedAs}
+use Rattle.endtoend.specs.Outcome.{NothingWritten, Outcome, PrintOutcome}
 
 -- rule 12 on the table that a text says: that on its record, which holds the first sixteen bands beside the text's count
 abbrev pub tableTextVerdict : TableEntries → Verdict
@@ -48,3 +49,9 @@ module _ (text : Award → List ℕ) (s t out : List ℕ) where
         → RefusedByTable SamplingTable line → OutcomeByTable
     -- the table passes, and t has its outcome by it
     by-its-table : (e : TableEntries) → AcceptedTable s e → Outcome text e t (clearedByTable s t) out → OutcomeByTable
+
+-- What a program prints for t with the table s: the line of the refusal that the table gets in every output, or what is printed by this table.
+pub data PrintOutcomeByTable (text : Award → List ℕ) (s t : List ℕ) : Type 0 where
+  table-line : (rule : Rule) (place : ℕ) → ((out : List ℕ) → RefusedByTable text s t out rule place)
+      → printedAs text (clearedByTable s t) ≡ refusalText (Refused rule place) → PrintOutcomeByTable text s t
+  printed-by-table : (e : TableEntries) → AcceptedTable s e → PrintOutcome text e t (clearedByTable s t) → PrintOutcomeByTable text s t
