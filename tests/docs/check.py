@@ -369,7 +369,7 @@ OPENED_IN = {"supplyOf": ["supply", "workedcases"]}
 NAMED_IN = {
     "carriage": ["money", "book", "bidrules", "bookrecord", "booklines", "bookwriter", "supply", "cases", "clearcases"],
     # who takes the printed sampling table: the entries that are passed none, and what writes it as text
-    "sampling::printed": ["clearing", "tender", "tableanswers", "cases"],
+    "sampling::printed": ["clearing", "tender", "tableanswers"],
 }
 
 

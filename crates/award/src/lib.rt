@@ -82,7 +82,7 @@ pub fn row_of(table: Table, bid: Bid, quantity: Blanks, without: Total) -> Row
 {
     let segment = supply::segment_number(bid, quantity);
     let price = price_of(bid, quantity);
-    let sample = sampling::sample(table, quantity);
+    let sample = sampling::sample_by_table(table, quantity);
     Row {
         bidder: bid.bidder,
         segment,

@@ -12,19 +12,19 @@ use Rattle.clearing.specs.declared.Clearing.{Clearing}
 use Rattle.awardtheorems.proofs.Counts.{few-rows}
 use Rattle.tableanswers.specs.TableAnswers.{tableIn}
 use Rattle.bookanswers.specs.BookAnswers.{bookOf}
-use Rattle.tender.specs.FromText.{clearText, clearedByTable}
+use Rattle.tender.specs.FromText.{clearTextSampled, clearedByTable}
 use Rattle.awardnumbers.specs.Numbers.{FewRows}
 
-pub few : (table : TableEntries) (t : List ℕ) → FewRows (clearText table t)
-unfolding clearText
+pub few : (table : TableEntries) (t : List ℕ) → FewRows (clearTextSampled table t)
+unfolding clearTextSampled
 few table t h = go (readOf t .verdict) refl
   where
-    go : (v : Verdict) → readOf t .verdict ≡ v → clearText table t .award .count ≤ 8
+    go : (v : Verdict) → readOf t .verdict ≡ v → clearTextSampled table t .award .count ≤ 8
     go Accepted e = rw e (few-rows (bookOf t) table (rw e at h))
     go (Refused rule place) e = rw e (omega arith)
 
 -- said of the answer as it is at hand
-pub few-answered : (table : TableEntries) (t : List ℕ) (answer : Clearing) → answer ≡ clearText table t → FewRows answer
+pub few-answered : (table : TableEntries) (t : List ℕ) (answer : Clearing) → answer ≡ clearTextSampled table t → FewRows answer
 few-answered table t answer e = subst FewRows (sym e) (few table t)
 
 -- by a table that comes as text, refused or not

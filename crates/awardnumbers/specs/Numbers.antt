@@ -12,7 +12,7 @@ use Rattle.refusal.specs.declared.Verdict.{Verdict}
 use Rattle.refusal.specs.declared.Verdict.the-variants.{Accepted}
 use Rattle.printer.specs.Written.{written}
 use Rattle.clearing.specs.declared.Clearing.{Clearing}
-use Rattle.tender.specs.FromText.{clearedByPrinted}
+use Rattle.tender.specs.FromText.{clearText}
 use Rattle.rownumbers.specs.RowNumbers.{awardNumbers}
 use Rattle.awardnumbers.specs.declared.AwardNumbers.{AwardNumbers}
 
@@ -48,16 +48,16 @@ FewRows cleared = cleared .verdict ≡ Accepted → cleared .award .count ≤ 8
 -- ---- of a text, by the printed table
 
 abbrev pub awardVerdict : List ℕ → ℕ → Verdict
-awardVerdict t = numbersVerdict (clearedByPrinted t)
+awardVerdict t = numbersVerdict (clearText t)
 
 abbrev pub awardTotal : List ℕ → ℕ → ℕ
-awardTotal t = numbersTotal (clearedByPrinted t)
+awardTotal t = numbersTotal (clearText t)
 
 abbrev pub awardCount : List ℕ → ℕ → ℕ
-awardCount t = numbersCount (clearedByPrinted t)
+awardCount t = numbersCount (clearText t)
 
 abbrev pub awardAnswer : List ℕ → ℕ → AwardNumbers
-awardAnswer t = numbersAnswer (clearedByPrinted t)
+awardAnswer t = numbersAnswer (clearText t)
 
 abbrev pub awardOutput : List ℕ → List ℕ → List ℕ
-awardOutput t = numbersOutput (clearedByPrinted t)
+awardOutput t = numbersOutput (clearText t)

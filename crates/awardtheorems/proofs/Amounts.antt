@@ -32,7 +32,7 @@ use Rattle.award.specs.declared.Total.the-variants.{Amount, Nothing}
 use Rattle.award.specs.declared.Row.{Row}
 use Rattle.award.specs.Award.{rowOf}
 use Rattle.without.specs.Without.{bookWithout, totalOf, totalWithout}
-use Rattle.clearing.specs.Clearing.{awardRecord, clearOf}
+use Rattle.clearing.specs.Clearing.{awardRecord, clearSampled}
 use Rattle.awardtheorems.specs.Awarded.{rowAt, awarded}
 use Rattle.awardtheorems.proofs.Answers.{cleared}
 use Rattle.awardtheorems.proofs.Counts.{few-bids, bids-within, bids-counted}
@@ -90,7 +90,7 @@ module _ (b : BookEntries) (bids : All AcceptedBid (b .bids)) (few : length (b .
   unfolding totalWithout bookWithout
   without-up-to i = total-up-to (bookWithout i b) (all-removed AcceptedBid i (b .bids) bids) (omega (arith, length-removed i (b .bids)))
 
-module _ (table : TableEntries) (book : Book) (held : length (book .bids) ≡ 8) (accepted : clearOf table (bookEntries book) .verdict ≡ Accepted) where
+module _ (table : TableEntries) (book : Book) (held : length (book .bids) ≡ 8) (accepted : clearSampled table (bookEntries book) .verdict ≡ Accepted) where
   abbrev b : BookEntries
   b = bookEntries book
 
@@ -104,12 +104,12 @@ module _ (table : TableEntries) (book : Book) (held : length (book .bids) ≡ 8)
   bids = all-accepted b is-accepted
 
   -- the demand, the total and every row
-  pub demand-up-to : clearOf table b .award .demand .0 ≤ mostBlanks
+  pub demand-up-to : clearSampled table b .award .demand .0 ≤ mostBlanks
   unfolding awardRecord
   demand-up-to = rw (cleared table b accepted .answer) (book-accepted b is-accepted .demand-high)
 
-  pub total-from-zero : UpTo mostTotal (clearOf table b .award .total .0)
-  total-from-zero = award-up-to b bids few (awarded (clearOf table b .award)) (no-other-cheaper table book held accepted)
+  pub total-from-zero : UpTo mostTotal (clearSampled table b .award .total .0)
+  total-from-zero = award-up-to b bids few (awarded (clearSampled table b .award)) (no-other-cheaper table book held accepted)
 
   segments-few : (i : ℕ) → i < b .count → length (getD (b .bids) i (bidEntries noBid) .segments) ≤ 6
   segments-few i h =
@@ -119,11 +119,11 @@ module _ (table : TableEntries) (book : Book) (held : length (book .bids) ≡ 8)
       let short = take-most (bid .count) (bid .segments) .0 in
       rw (entry-at (book .bids) (book .count) within i h) (omega (arith, a .count-high, short))
 
-  pub rows-up-to : SmallSamples table → (i : ℕ) → i < b .count → RowUpTo (rowAt (clearOf table b .award) i)
+  pub rows-up-to : SmallSamples table → (i : ℕ) → i < b .count → RowUpTo (rowAt (clearSampled table b .award) i)
   rows-up-to small i h =
       let bid : BidEntries = getD (b .bids) i (bidEntries noBid) in
       let within : i < length (b .bids) = omega (arith, bids-counted book held is-accepted) in
-      let quantities = awarded (clearOf table b .award) .quantities in
+      let quantities = awarded (clearSampled table b .award) .quantities in
       let offered = offered-at (b .bids) quantities (bidEntries noBid) (no-other-cheaper table book held accepted .division .allocation) i within in
       let row =
       row-up-to table small bid (getD quantities i 0) (totalWithout b i) (all-at AcceptedBid (bidEntries noBid) (b .bids) bids i within) (segments-few i h) offered

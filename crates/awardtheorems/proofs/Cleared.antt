@@ -31,7 +31,7 @@ use Rattle.award.specs.Award.{noRow, rowOf}
 use Rattle.without.specs.Without.{bookWithout, totalOf, totalWithout}
 use Rattle.without.proofs.Same.{same-total}
 use Rattle.clearing.specs.declared.Clearing.{Clearing}
-use Rattle.clearing.specs.Clearing.{clearOf}
+use Rattle.clearing.specs.Clearing.{clearSampled}
 use Rattle.clearing.proofs.Answers.{no-division, division}
 use Rattle.awardtheorems.specs.OfBook.{DivisionOf, IsAwardOf}
 use Rattle.awardtheorems.specs.Awarded.{rowAt, awarded}
@@ -50,22 +50,22 @@ module _ (b : BookEntries) where
   no-award-of-book = no-award-iff (b .demand) (suppliesOf (b .bids))
 
   -- "not covered" is said exactly when there is no division
-  pub not-covered-iff : (table : TableEntries) → bookVerdict b ≡ Accepted → (clearOf table b .verdict ≡ Refused NotCovered 0) ↔ ((rs : List ℕ) → DivisionOf b rs → ⊥)
+  pub not-covered-iff : (table : TableEntries) → bookVerdict b ≡ Accepted → (clearSampled table b .verdict ≡ Refused NotCovered 0) ↔ ((rs : List ℕ) → DivisionOf b rs → ⊥)
   not-covered-iff table e = (λ h. no-award-of-book .0 (none-of (awardOfBook b) refl h), λ f. ap (λ (c : Clearing). c .verdict) (no-division table b e (no-award-of-book .1 f)))
     where
-      none-of : (o : Option Priced) → awardOfBook b ≡ o → clearOf table b .verdict ≡ Refused NotCovered 0 → awardOfBook b ≡ none
+      none-of : (o : Option Priced) → awardOfBook b ≡ o → clearSampled table b .verdict ≡ Refused NotCovered 0 → awardOfBook b ≡ none
       none-of none f h = f
       none-of (some award) f h =
-          absurd (accepted-refused (clearOf table b .verdict) NotCovered 0 (ap (λ (c : Clearing). c .verdict) (division table b award e f)) h)
+          absurd (accepted-refused (clearSampled table b .verdict) NotCovered 0 (ap (λ (c : Clearing). c .verdict) (division table b award e f)) h)
 
   -- and an accepted book is covered exactly when there is one
-  pub covered-iff : (table : TableEntries) → bookVerdict b ≡ Accepted → (clearOf table b .verdict ≡ Accepted) ↔ ((rs : List ℕ) × DivisionOf b rs)
+  pub covered-iff : (table : TableEntries) → bookVerdict b ≡ Accepted → (clearSampled table b .verdict ≡ Accepted) ↔ ((rs : List ℕ) × DivisionOf b rs)
   covered-iff table e = (
     λ h. let c = cleared table b h in (c .award .quantities, award-of-book (c .award) (c .is-award) .division),
     λ d. some-of (awardOfBook b) refl (d .0) (d .1),
   )
     where
-      some-of : (o : Option Priced) → awardOfBook b ≡ o → (rs : List ℕ) → DivisionOf b rs → clearOf table b .verdict ≡ Accepted
+      some-of : (o : Option Priced) → awardOfBook b ≡ o → (rs : List ℕ) → DivisionOf b rs → clearSampled table b .verdict ≡ Accepted
       some-of none f rs d = absurd (no-award-of-book .0 f rs d)
       some-of (some award) f rs d = ap (λ (c : Clearing). c .verdict) (division table b award e f)
 
@@ -101,7 +101,7 @@ module _ (table : TableEntries) (book : Book) (held : length (book .bids) ≡ 8)
   b = bookEntries book
 
   abbrev answer : Clearing
-  answer = clearOf table b
+  answer = clearSampled table b
 
   module _ (accepted : answer .verdict ≡ Accepted) where
     c : Cleared table b

@@ -12,18 +12,18 @@ use Rattle.book.proofs.Bids.{length-entries}
 use Rattle.book.proofs.Accepted.{book-accepted}
 use Rattle.sampling.specs.Entries.{TableEntries}
 use Rattle.clearing.specs.declared.Clearing.{Clearing}
-use Rattle.clearing.specs.Clearing.{awardRecord, clearOf}
+use Rattle.clearing.specs.Clearing.{awardRecord, clearSampled}
 use Rattle.awardtheorems.proofs.Answers.{cleared}
 
 module _ (b : BookEntries) where
   pub few-bids : bookVerdict b ≡ Accepted → b .count ≤ 8
   few-bids e = book-accepted b e .count-high
 
-  pub few-rows : (table : TableEntries) → clearOf table b .verdict ≡ Accepted → clearOf table b .award .count ≤ 8
+  pub few-rows : (table : TableEntries) → clearSampled table b .verdict ≡ Accepted → clearSampled table b .award .count ≤ 8
   unfolding awardRecord
   few-rows table h =
       let a = cleared table b h in
-      let count : clearOf table b .award .count ≡ b .count = ap (λ (c : Clearing). c .award .count) (a .answer) in
+      let count : clearSampled table b .award .count ≡ b .count = ap (λ (c : Clearing). c .award .count) (a .answer) in
       omega (arith, few-bids (a .accepted))
 
 module _ (book : Book) (held : length (book .bids) ≡ 8) (accepted : bookVerdict (bookEntries book) ≡ Accepted) where

@@ -14,15 +14,15 @@ use Rattle.sampling.specs.Rules.{tableVerdict}
 use Rattle.tablerules.proofs.Passing.{zero-samples-zero, every-quantity-lies, sample-in-band, sample-at-most, sample-small}
 use Rattle.award.specs.declared.Row.{Row}
 use Rattle.award.specs.Award.{rowOf}
-use Rattle.clearing.specs.Clearing.{clearOf}
+use Rattle.clearing.specs.Clearing.{clearSampled}
 use Rattle.awardtheorems.specs.Awarded.{rowAt}
 use Rattle.awardtheorems.proofs.Cleared.{row-is}
 use Rattle.awardtheorems.proofs.Amounts.{rows-up-to}
 
 module _ (table : TableEntries) (passes : tableVerdict table ≡ Accepted) (book : Book) (held : length (book .bids) ≡ 8)
-    (accepted : clearOf table (bookEntries book) .verdict ≡ Accepted) (i : ℕ) (here : i < book .count) where
+    (accepted : clearSampled table (bookEntries book) .verdict ≡ Accepted) (i : ℕ) (here : i < book .count) where
   abbrev row : Row
-  row = rowAt (clearOf table (bookEntries book) .award) i
+  row = rowAt (clearSampled table (bookEntries book) .award) i
 
   by-the-table : row .sample .0 ≡ sampleOf table (row .quantity .0)
   unfolding rowOf

@@ -46,8 +46,7 @@ fn award(layout: Layout, book: Book, out: &mut [u8]) {
 // Of the first quantity.
 fn sample(quantities: &[u64]) {
     if 0 < quantities.len() {
-        let table = sampling::printed();
-        show::number(sampling::sample(table, Blanks(quantities[0])).0);
+        show::number(sampling::sample(Blanks(quantities[0])).0);
     }
 }
 

@@ -31,6 +31,6 @@ fn sample(table: &[u8], quantities: &[u64]) {
     let read = tablereader::read(table);
     let loaded = read.table;
     if 0 < quantities.len() {
-        show::number(sampling::sample(loaded, Blanks(quantities[0])).0);
+        show::number(sampling::sample_by_table(loaded, Blanks(quantities[0])).0);
     }
 }

@@ -12,6 +12,7 @@ use Rattle.book.specs.declared.Book.{Book}
 use Rattle.book.specs.Entries.{BidEntries, BookEntries, bookEntries}
 use Rattle.book.specs.Rules.{bookVerdict}
 use Rattle.sampling.specs.Entries.{TableEntries}
+use Rattle.sampling.specs.Sampling.{printedTable}
 use Rattle.sampling.specs.Rules.{tableVerdict}
 use Rattle.divisions.specs.Award.{Priced, awardOfBook}
 use Rattle.comparison.specs.declared.MaybeDivision.{MaybeDivision}
@@ -46,12 +47,16 @@ clearedBook table b none = refusedClearing (Refused NotCovered 0)
 clearedBook table b (some award) = record { verdict = Accepted; award = awardRecord table b award }
 
 -- of every book, sampled by a table
-unfoldable pub clearOf : TableEntries → BookEntries → Clearing
-clearOf table b = whenAccepted (bookVerdict b) (clearedBook table b (awardOfBook b)) (refusedClearing (bookVerdict b))
+unfoldable pub clearSampled : TableEntries → BookEntries → Clearing
+clearSampled table b = whenAccepted (bookVerdict b) (clearedBook table b (awardOfBook b)) (refusedClearing (bookVerdict b))
+
+-- sampled by the printed table
+abbrev pub clearOf : BookEntries → Clearing
+clearOf = clearSampled printedTable
 
 -- of every table and every book: the table's refusals come before all of the book's
 unfoldable pub clearByTable : TableEntries → BookEntries → Clearing
-clearByTable table b = whenAccepted (tableVerdict table) (clearOf table b) (refusedClearing (tableVerdict table))
+clearByTable table b = whenAccepted (tableVerdict table) (clearSampled table b) (refusedClearing (tableVerdict table))
 
 -- what `rows` asks: an accepted book, and its award
 pub record BookAward (book : Book) (award : MaybeDivision) : Type 0 where

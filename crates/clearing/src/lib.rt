@@ -4,10 +4,9 @@ ghost use lib.ListN.{take};
 ghost use Rattle.lists.specs.Padded.{padded};
 ghost use Rattle.book.specs.Entries.{bookEntries};
 ghost use Rattle.sampling.specs.Entries.{tableEntries};
-ghost use Rattle.sampling.specs.Sampling.{printedTable};
 ghost use Rattle.comparison.specs.Records.{blanksIn};
 ghost use Rattle.award.specs.Award.{noRow};
-ghost use Rattle.clearing.specs.Clearing.{rowsFrom, refusedClearing, clearOf, clearByTable, BookAward};
+ghost use Rattle.clearing.specs.Clearing.{rowsFrom, refusedClearing, clearSampled, clearOf, clearByTable, BookAward};
 use award::Award;
 use award::Row;
 use book::Book;
@@ -52,7 +51,7 @@ fn rows(table: Table, book: Book, award: MaybeDivision) -> [Row; 8]
 // Clears any record, sampled by a table: refused by rules 3 to 8 as `bookrules::check` refuses it, by rule 9 where its bids have no
 // division, and else awarded. It is no entry: it does not look whether the table passes.
 pub fn clear_sampled(table: Table, book: Book) -> Clearing
-    ensures { λ r. ⌜ r ≡ clearOf (tableEntries table) (bookEntries book) ⌝ }
+    ensures { λ r. ⌜ r ≡ clearSampled (tableEntries table) (bookEntries book) ⌝ }
 {
     let verdict = bookrules::check(book);
     if let Verdict::Refused(_, _) = verdict {
@@ -80,7 +79,7 @@ pub fn clear_sampled(table: Table, book: Book) -> Clearing
 
 // Clears any record, sampled by the printed table.
 pub fn clear(book: Book) -> Clearing
-    ensures { λ r. ⌜ r ≡ clearOf printedTable (bookEntries book) ⌝ }
+    ensures { λ r. ⌜ r ≡ clearOf (bookEntries book) ⌝ }
 {
     let table = sampling::printed();
     clear_sampled(table, book)

@@ -21,12 +21,12 @@ use Rattle.award.specs.declared.Row.{Row}
 use Rattle.award.specs.Award.{rowOf}
 use Rattle.without.specs.Without.{bookWithout, totalOf}
 use Rattle.clearing.specs.declared.Clearing.{Clearing}
-use Rattle.clearing.specs.Clearing.{awardRecord, clearOf}
+use Rattle.clearing.specs.Clearing.{awardRecord, clearSampled}
 use Rattle.awardtheorems.specs.Awarded.{rowAt, awarded}
 use Rattle.awardtheorems.proofs.Answers.{cleared}
 use Rattle.awardtheorems.proofs.Cleared.{award-of-book, no-award-of-book, no-other-cheaper, one-inside, row-is, without-is}
 use Rattle.bookanswers.specs.BookAnswers.{bookOf}
-use Rattle.tender.specs.FromText.{clearText}
+use Rattle.tender.specs.FromText.{clearTextSampled}
 use Rattle.endtoend.specs.TheAward.{TotalOf, bidAt, TheAward}
 use Rattle.endtoend.specs.Outcome.{AcceptedText}
 
@@ -39,12 +39,12 @@ total-of b = go (awardOfBook b) refl
     go none e = no-award-of-book b .0 e
     go (some award) e = (award, award-of-book b award e, refl)
 
-module _ (table : TableEntries) (book : Book) (held : length (book .bids) ≡ 8) (accepted : clearOf table (bookEntries book) .verdict ≡ Accepted) where
+module _ (table : TableEntries) (book : Book) (held : length (book .bids) ≡ 8) (accepted : clearSampled table (bookEntries book) .verdict ≡ Accepted) where
   abbrev b : BookEntries
   b = bookEntries book
 
   abbrev a : Award
-  a = clearOf table b .award
+  a = clearSampled table b .award
 
   -- its first line, and each row with the total that it shows
   first-line : (a .demand .0 ≡ b .demand) × (a .count ≡ b .count)
@@ -71,8 +71,8 @@ module _ (table : TableEntries) (book : Book) (held : length (book .bids) ≡ 8)
 
 -- from a text
 module _ (t : List ℕ) (accepted : readOf t .verdict ≡ Accepted) where
-  pub cleared-book : (table : TableEntries) → clearText table t ≡ clearOf table (bookOf t)
-  unfolding clearText
+  pub cleared-book : (table : TableEntries) → clearTextSampled table t ≡ clearSampled table (bookOf t)
+  unfolding clearTextSampled
   cleared-book table = rw accepted
 
   pub accepted-text : AcceptedText t (bookOf t)
@@ -82,26 +82,26 @@ module _ (t : List ℕ) (accepted : readOf t .verdict ≡ Accepted) where
   }
 
 -- where the answer is accepted the text was, and the answer is its award
-module _ (table : TableEntries) (t : List ℕ) (accepted : clearText table t .verdict ≡ Accepted) where
+module _ (table : TableEntries) (t : List ℕ) (accepted : clearTextSampled table t .verdict ≡ Accepted) where
   pub was-read : readOf t .verdict ≡ Accepted
-  unfolding clearText
+  unfolding clearTextSampled
   was-read = go (readOf t .verdict) refl
     where
       go : (v : Verdict) → readOf t .verdict ≡ v → readOf t .verdict ≡ Accepted
       go Accepted e = e
       go (Refused rule place) e = refused-not (rw e at accepted)
 
-  record-cleared : clearOf table (bookOf t) .verdict ≡ Accepted
+  record-cleared : clearSampled table (bookOf t) .verdict ≡ Accepted
   record-cleared = ap (λ (c : Clearing). c .verdict) (sym (cleared-book t was-read table)) ∙ accepted
 
   -- what holds of every record that is cleared and of its award holds of the text's
   pub of-records : (P : BookEntries → Award → Type 0)
-      → ((book : Book) → length (book .bids) ≡ 8 → clearOf table (bookEntries book) .verdict ≡ Accepted
-      → P (bookEntries book) (clearOf table (bookEntries book) .award))
-      → P (bookOf t) (clearText table t .award)
+      → ((book : Book) → length (book .bids) ≡ 8 → clearSampled table (bookEntries book) .verdict ≡ Accepted
+      → P (bookEntries book) (clearSampled table (bookEntries book) .award))
+      → P (bookOf t) (clearTextSampled table t .award)
   of-records P h =
       subst (λ (c : Clearing). P (bookOf t) (c .award)) (sym (cleared-book t was-read table))
       (h (readOf t .book) (arrays-read t was-read .bids) record-cleared)
 
-  pub its-award : TheAward table (bookOf t) (clearText table t .award)
+  pub its-award : TheAward table (bookOf t) (clearTextSampled table t .award)
   its-award = of-records (TheAward table) (the-award table)

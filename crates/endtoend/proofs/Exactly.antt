@@ -23,7 +23,7 @@ use Rattle.sampling.specs.Entries.{TableEntries}
 use Rattle.awardtheorems.specs.Awarded.{awarded}
 use Rattle.sheettext.specs.Sheet.{sheetText}
 use Rattle.bookanswers.specs.BookAnswers.{bookOf}
-use Rattle.tender.specs.FromText.{clearText, writtenAs}
+use Rattle.tender.specs.FromText.{clearTextSampled, writtenAs}
 use Rattle.awardnumbers.specs.Numbers.{numbersVerdict}
 use Rattle.endtoend.specs.Outcome.{CoveredText, UncoveredText, Outcome, too-long, not-of-shape, broken, not-covered, output-short, award-written}
 use Rattle.endtoend.proofs.ClearedText.{accepted-text, was-read, its-award}
@@ -32,17 +32,17 @@ use Rattle.endtoend.proofs.Given.{same-book, covered, uncovered}
 
 module _ (table : TableEntries) (t : List ℕ) where
   -- refusal 9 is the outcome of a book without a division, and of nothing else
-  its-nine : clearText table t .verdict ≡ Refused NotCovered 0 → (b : BookEntries) × UncoveredText t b
+  its-nine : clearTextSampled table t .verdict ≡ Refused NotCovered 0 → (b : BookEntries) × UncoveredText t b
   unfolding every
   its-nine e = go (whole sheetText table t [])
     where
-      nine : writtenAs sheetText (clearText table t) 0 .verdict ≡ Refused NotCovered 0
-      nine = ap (λ (w : TextWritten). w .verdict) (nothing-written sheetText (clearText table t) [] NotCovered 0 e .0)
+      nine : writtenAs sheetText (clearTextSampled table t) 0 .verdict ≡ Refused NotCovered 0
+      nine = ap (λ (w : TextWritten). w .verdict) (nothing-written sheetText (clearTextSampled table t) [] NotCovered 0 e .0)
 
-      told : {w : TextWritten} → writtenAs sheetText (clearText table t) 0 ≡ w → w .verdict ≡ Refused NotCovered 0
+      told : {w : TextWritten} → writtenAs sheetText (clearTextSampled table t) 0 ≡ w → w .verdict ≡ Refused NotCovered 0
       told f = sym (ap (λ (w : TextWritten). w .verdict) f) ∙ nine
 
-      go : Outcome sheetText table t (clearText table t) [] → (b : BookEntries) × UncoveredText t b
+      go : Outcome sheetText table t (clearTextSampled table t) [] → (b : BookEntries) × UncoveredText t b
       go (too-long h f) = absurd (omega (arith, ap numberOf (told (f .0))))
       go (not-of-shape place h f) = absurd (omega (arith, ap numberOf (told (f .0))))
       go (broken b says rule line g f) = absurd (never-by NotCovered refl (bookEntries (bookRecord b)) 0 (g ∙ told (f .0)))
@@ -50,20 +50,20 @@ module _ (table : TableEntries) (t : List ℕ) where
       go (output-short b is a award h f) = absurd (omega (arith, ap numberOf (told (f .0))))
       go (award-written b is a award h f) = absurd (omega (arith, ap numberOf (told (f .0))))
 
-  pub nine-iff : (clearText table t .verdict ≡ Refused NotCovered 0) ↔ ((b : BookEntries) × UncoveredText t b)
+  pub nine-iff : (clearTextSampled table t .verdict ≡ Refused NotCovered 0) ↔ ((b : BookEntries) × UncoveredText t b)
   nine-iff = (its-nine, λ (b, (is, no-division)). uncovered t b is table no-division)
 
   -- what was read is a book with the division that the award is
-  its-book : clearText table t .verdict ≡ Accepted → CoveredText t (bookOf t)
-  its-book e = (accepted-text t (was-read table t e), (awarded (clearText table t .award) .quantities, its-award table t e .best .division))
+  its-book : clearTextSampled table t .verdict ≡ Accepted → CoveredText t (bookOf t)
+  its-book e = (accepted-text t (was-read table t e), (awarded (clearTextSampled table t .award) .quantities, its-award table t e .best .division))
 
-  pub award-iff : (clearText table t .verdict ≡ Accepted) ↔ ((b : BookEntries) × CoveredText t b)
+  pub award-iff : (clearTextSampled table t .verdict ≡ Accepted) ↔ ((b : BookEntries) × CoveredText t b)
   award-iff = (λ e. (bookOf t, its-book e), λ (b, (is, (rs, d))). covered t b is table rs d)
 
 -- for C, where the lent list has `size` numbers: too short a list is refused after 9, and else there is an award
 module _ (table : TableEntries) (t : List ℕ) (size : ℕ) where
   abbrev count : ℕ
-  count = clearText table t .award .count
+  count = clearTextSampled table t .award .count
 
   -- 9 comes from clearing: the list's length gives 10 alone
   cleared-first : (v w : Verdict) → numberOf w ≡ 9 → (fits : Bool) → firstOf (v ∷ unless fits OutputLength (56 * count) ∷ []) ≡ w → v ≡ w
@@ -71,25 +71,25 @@ module _ (table : TableEntries) (t : List ℕ) (size : ℕ) where
   cleared-first Accepted w h true e = absurd (omega (arith, ap numberOf e))
   cleared-first Accepted w h false e = absurd (omega (arith, ap numberOf e))
 
-  pub numbers-nine-iff : (numbersVerdict (clearText table t) size ≡ Refused NotCovered 0) ↔ ((b : BookEntries) × UncoveredText t b)
+  pub numbers-nine-iff : (numbersVerdict (clearTextSampled table t) size ≡ Refused NotCovered 0) ↔ ((b : BookEntries) × UncoveredText t b)
   unfolding numbersVerdict
   numbers-nine-iff = (
-    λ e. nine-iff table t .0 (cleared-first (clearText table t .verdict) (Refused NotCovered 0) refl (leb (7 * count) size) e),
+    λ e. nine-iff table t .0 (cleared-first (clearTextSampled table t .verdict) (Refused NotCovered 0) refl (leb (7 * count) size) e),
     λ h. let nine = nine-iff table t .1 h in rw nine,
   )
 
-  pub numbers-award-iff : (numbersVerdict (clearText table t) size ≡ Accepted) ↔ ((b : BookEntries) × CoveredText t b × (7 * b .count ≤ size))
+  pub numbers-award-iff : (numbersVerdict (clearTextSampled table t) size ≡ Accepted) ↔ ((b : BookEntries) × CoveredText t b × (7 * b .count ≤ size))
   unfolding numbersVerdict
   numbers-award-iff = (to, from)
     where
-      to : numbersVerdict (clearText table t) size ≡ Accepted → (b : BookEntries) × CoveredText t b × (7 * b .count ≤ size)
+      to : numbersVerdict (clearTextSampled table t) size ≡ Accepted → (b : BookEntries) × CoveredText t b × (7 * b .count ≤ size)
       to e =
           let long = leb (7 * count) size in
-          let (accepted, (fits, _)) = all-passed (clearText table t .verdict ∷ unless long OutputLength (56 * count) ∷ []) e in
+          let (accepted, (fits, _)) = all-passed (clearTextSampled table t .verdict ∷ unless long OutputLength (56 * count) ∷ []) e in
           let enough = leb-true (7 * count) size (test-holds long OutputLength (56 * count) fits) in
           (bookOf t, its-book table t accepted, subst (λ (n : ℕ). 7 * n ≤ size) (its-award table t accepted .count) enough)
 
-      from : (b : BookEntries) × CoveredText t b × (7 * b .count ≤ size) → numbersVerdict (clearText table t) size ≡ Accepted
+      from : (b : BookEntries) × CoveredText t b × (7 * b .count ≤ size) → numbersVerdict (clearTextSampled table t) size ≡ Accepted
       from (b, is, h) =
           let accepted = award-iff table t .1 (b, is) in
           let counted : count ≡ b .count = its-award table t accepted .count ∙ ap (λ (x : BookEntries). x .count) (same-book t b (is .0)) in

@@ -27,14 +27,14 @@ use Rattle.award.specs.declared.Total.the-variants.{Amount, Nothing}
 use Rattle.award.specs.declared.Row.{Row}
 use Rattle.award.specs.declared.Award.{Award}
 use Rattle.award.specs.Award.{noRow}
-use Rattle.clearing.specs.Clearing.{clearOf}
+use Rattle.clearing.specs.Clearing.{clearSampled}
 use Rattle.awardtheorems.specs.Awarded.{rowsOf, rowAt}
 use Rattle.awardtheorems.proofs.Answers.{cleared}
 use Rattle.awardtheorems.proofs.Costs.{NotNegative, UpTo, mostTotal}
 use Rattle.awardtheorems.proofs.Amounts.{SmallSamples, TotalUpTo, RowUpTo, demand-up-to, total-from-zero, rows-up-to}
 use Rattle.sheettext.specs.Sheet.{totalText, rowText, sheetText}
 use Rattle.sheettext.proofs.Sizes.{row-size, sheet-size}
-use Rattle.tender.specs.FromText.{clearText, clearedByPrinted, sheetWritten, clearPrints}
+use Rattle.tender.specs.FromText.{clearTextSampled, clearText, sheetWritten, clearPrints}
 use Rattle.endtoend.proofs.ClearedText.{the-award, of-records}
 use Rattle.endtoend.proofs.Places.{before-output}
 use Rattle.endtoend.proofs.LongEnough.{printed-fits, same-verdict, never-10}
@@ -69,9 +69,9 @@ every-row P a each = all-indexed P noRow (rowsOf a) (λ i h.
 
 -- the sheet of an award, by a table without large samples: 31 bytes, and 66 for each bid
 module _ (table : TableEntries) (small : SmallSamples table) (book : Book) (held : length (book .bids) ≡ 8)
-    (accepted : clearOf table (bookEntries book) .verdict ≡ Accepted) where
+    (accepted : clearSampled table (bookEntries book) .verdict ≡ Accepted) where
   abbrev a : Award
-  a = clearOf table (bookEntries book) .award
+  a = clearSampled table (bookEntries book) .award
 
   count-is : a .count ≡ book .count
   count-is = the-award table book held accepted .count
@@ -97,9 +97,9 @@ module _ (table : TableEntries) (small : SmallSamples table) (book : Book) (held
 
 module _ (table : TableEntries) (small : SmallSamples table) (t : List ℕ) where
   -- Of a text that is cleared: no amount of its award is negative, and its numbers have these bounds.
-  module _ (accepted : clearText table t .verdict ≡ Accepted) where
+  module _ (accepted : clearTextSampled table t .verdict ≡ Accepted) where
     abbrev award : Award
-    award = clearText table t .award
+    award = clearTextSampled table t .award
 
     pub text-demand-up-to : award .demand .0 ≤ mostBlanks
     text-demand-up-to = of-records table t accepted (λ (b : BookEntries) (a : Award). a .demand .0 ≤ mostBlanks) (demand-up-to table)
@@ -115,7 +115,7 @@ module _ (table : TableEntries) (small : SmallSamples table) (t : List ℕ) wher
     sheet-fits = of-records table t accepted (λ (b : BookEntries) (a : Award). length (sheetText a) ≤ 559) (short-sheet table small)
 
   -- 600 bytes hold the sheet
-  pub in-600 : clearText table t .verdict ≡ Accepted → length (sheetText (clearText table t .award)) ≤ 600
+  pub in-600 : clearTextSampled table t .verdict ≡ Accepted → length (sheetText (clearTextSampled table t .award)) ≤ 600
   in-600 e = omega (arith, sheet-fits e)
 
 pub printed-small : SmallSamples printedTable
@@ -124,10 +124,10 @@ printed-small = sample-small printedTable printed-passes
 -- 600 bytes hold whatever is printed, so that rule 10 never arises with them: of a text, by the printed table
 module _ (t : List ℕ) where
   pub prints-fit : length (clearPrints t) ≤ 600
-  prints-fit = printed-fits sheetText 600 (clearedByPrinted t) (before-output t printedTable) (in-600 printedTable printed-small t) (omega arith)
+  prints-fit = printed-fits sheetText 600 (clearText t) (before-output t printedTable) (in-600 printedTable printed-small t) (omega arith)
 
   pub never-short : (out : List ℕ) → 600 ≤ length out → (place : ℕ) → sheetWritten t (length out) .verdict ≡ Refused OutputLength place → ⊥
-  never-short = never-10 sheetText 600 (clearedByPrinted t) (before-output t printedTable) (in-600 printedTable printed-small t)
+  never-short = never-10 sheetText 600 (clearText t) (before-output t printedTable) (in-600 printedTable printed-small t)
 
-  pub sheet-verdict : (out : List ℕ) → 600 ≤ length out → sheetWritten t (length out) .verdict ≡ clearedByPrinted t .verdict
-  sheet-verdict = same-verdict sheetText 600 (clearedByPrinted t) (before-output t printedTable) (in-600 printedTable printed-small t)
+  pub sheet-verdict : (out : List ℕ) → 600 ≤ length out → sheetWritten t (length out) .verdict ≡ clearText t .verdict
+  sheet-verdict = same-verdict sheetText 600 (clearText t) (before-output t printedTable) (in-600 printedTable printed-small t)

@@ -16,7 +16,7 @@ use Rattle.clearing.specs.declared.Clearing.{Clearing}
 use Rattle.awardtheorems.proofs.Amounts.{SmallSamples}
 use Rattle.sheettext.specs.Sheet.{sheetText}
 use Rattle.tableanswers.specs.TableAnswers.{tableIn}
-use Rattle.tender.specs.FromText.{clearText, clearedByTable, writtenAs, printedAs}
+use Rattle.tender.specs.FromText.{clearTextSampled, clearedByTable, writtenAs, printedAs}
 use Rattle.endtoend.proofs.Places.{OfText, BeforeOutput, before-output}
 use Rattle.endtoend.proofs.LongEnough.{printed-fits, same-verdict, never-10}
 use Rattle.endtoend.proofs.Fits.{in-600}
@@ -38,7 +38,7 @@ module _ (s t : List ℕ) where
 
   -- what is known of the text of every award by a table without large samples is known by a table that passes
   pub fits-by-table : (text : Award → List ℕ) (most : ℕ)
-      → ((table : TableEntries) → SmallSamples table → clearText table t .verdict ≡ Accepted → length (text (clearText table t .award)) ≤ most)
+      → ((table : TableEntries) → SmallSamples table → clearTextSampled table t .verdict ≡ Accepted → length (text (clearTextSampled table t .award)) ≤ most)
       → clearedByTable s t .verdict ≡ Accepted → length (text (clearedByTable s t .award)) ≤ most
   fits-by-table text most fits =
       either-way s t (λ (c : Clearing). c .verdict ≡ Accepted → length (text (c .award)) ≤ most) (λ rule place e h. refused-not h)

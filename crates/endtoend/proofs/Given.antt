@@ -18,12 +18,12 @@ use Rattle.roundtrip.specs.NotOfShape.{NotOfShape}
 use Rattle.roundtrip.proofs.Reading.{place-refused}
 use Rattle.award.specs.declared.Award.{Award}
 use Rattle.clearing.specs.declared.Clearing.{Clearing}
-use Rattle.clearing.specs.Clearing.{clearOf}
+use Rattle.clearing.specs.Clearing.{clearSampled}
 use Rattle.awardtheorems.specs.OfBook.{DivisionOf}
 use Rattle.awardtheorems.specs.Awarded.{awarded}
 use Rattle.awardtheorems.proofs.Cleared.{covered-iff, not-covered-iff}
 use Rattle.bookanswers.specs.BookAnswers.{bookOf}
-use Rattle.tender.specs.FromText.{clearText}
+use Rattle.tender.specs.FromText.{clearTextSampled}
 use Rattle.endtoend.specs.TheAward.{TheAward}
 use Rattle.endtoend.specs.Outcome.{textVerdict, TextSays, AcceptedText, NothingWritten, WholeText}
 use Rattle.endtoend.specs.Shown.{ShowsRowsOnly}
@@ -36,13 +36,13 @@ verdict-of e = ap (λ (r : BookRead). r .verdict) e
 
 -- refused before it is cleared
 module _ (text : Award → List ℕ) (table : TableEntries) (t out : List ℕ) where
-  pub gets-1 : 4096 < length t → NothingWritten text (clearText table t) out TextLength 4096
+  pub gets-1 : 4096 < length t → NothingWritten text (clearTextSampled table t) out TextLength 4096
   gets-1 h = refused-text text table t out TextLength 4096 (verdict-of (sym (read-long t h)))
 
-  pub gets-2 : (place : ℕ) → NotOfShape t place → NothingWritten text (clearText table t) out Shape place
+  pub gets-2 : (place : ℕ) → NotOfShape t place → NothingWritten text (clearTextSampled table t) out Shape place
   gets-2 place h = refused-text text table t out Shape place (verdict-of (place-refused t place h))
 
-  pub gets-3-to-8 : (b : BookEntries) → TextSays t b → (rule : Rule) (line : ℕ) → textVerdict b ≡ Refused rule line → NothingWritten text (clearText table t) out rule line
+  pub gets-3-to-8 : (b : BookEntries) → TextSays t b → (rule : Rule) (line : ℕ) → textVerdict b ≡ Refused rule line → NothingWritten text (clearTextSampled table t) out rule line
   unfolding bookAnswer
   gets-3-to-8 b says rule line e = refused-text text table t out rule line (verdict-of (sym (read-text t (says .short) b (says .text))) ∙ e)
 
@@ -59,36 +59,36 @@ module _ (t : List ℕ) (b : BookEntries) (is : AcceptedText t b) where
   book-passes = ap bookVerdict (sym (entries-of-record b (is .says .text .well-formed) (is .accepted))) ∙ is .accepted
 
   module _ (table : TableEntries) where
-    cleared-as-book : clearText table t .verdict ≡ clearOf table b .verdict
-    cleared-as-book = ap (λ (c : Clearing). c .verdict) (cleared-book t (verdict-of read-as-book) table ∙ ap (clearOf table) same-book)
+    cleared-as-book : clearTextSampled table t .verdict ≡ clearSampled table b .verdict
+    cleared-as-book = ap (λ (c : Clearing). c .verdict) (cleared-book t (verdict-of read-as-book) table ∙ ap (clearSampled table) same-book)
 
-    pub uncovered : ((rs : List ℕ) → DivisionOf b rs → ⊥) → clearText table t .verdict ≡ Refused NotCovered 0
+    pub uncovered : ((rs : List ℕ) → DivisionOf b rs → ⊥) → clearTextSampled table t .verdict ≡ Refused NotCovered 0
     uncovered no-division = cleared-as-book ∙ not-covered-iff b table book-passes .1 no-division
 
-    pub covered : (rs : List ℕ) → DivisionOf b rs → clearText table t .verdict ≡ Accepted
+    pub covered : (rs : List ℕ) → DivisionOf b rs → clearTextSampled table t .verdict ≡ Accepted
     covered rs d = cleared-as-book ∙ covered-iff b table book-passes .1 (rs, d)
 
     -- where there is a division there is an award
-    found : (rs : List ℕ) → DivisionOf b rs → TheAward table b (clearText table t .award)
-    found rs d = subst (λ (x : BookEntries). TheAward table x (clearText table t .award)) same-book (its-award table t (covered rs d))
+    found : (rs : List ℕ) → DivisionOf b rs → TheAward table b (clearTextSampled table t .award)
+    found rs d = subst (λ (x : BookEntries). TheAward table x (clearTextSampled table t .award)) same-book (its-award table t (covered rs d))
 
     pub has-award : (rs : List ℕ) → DivisionOf b rs → (a : Award) × TheAward table b a
-    has-award rs d = (clearText table t .award, found rs d)
+    has-award rs d = (clearTextSampled table t .award, found rs d)
 
 -- accepted, and lent an output
 module _ (text : Award → List ℕ) (table : TableEntries) (t out : List ℕ) (b : BookEntries) (is : AcceptedText t b) where
-  pub gets-9 : ((rs : List ℕ) → DivisionOf b rs → ⊥) → NothingWritten text (clearText table t) out NotCovered 0
-  gets-9 no-division = nothing-written text (clearText table t) out NotCovered 0 (uncovered t b is table no-division)
+  pub gets-9 : ((rs : List ℕ) → DivisionOf b rs → ⊥) → NothingWritten text (clearTextSampled table t) out NotCovered 0
+  gets-9 no-division = nothing-written text (clearTextSampled table t) out NotCovered 0 (uncovered t b is table no-division)
 
   module _ (shows : ShowsRowsOnly text) (a : Award) (award : TheAward table b a) where
-    accepted : clearText table t .verdict ≡ Accepted
+    accepted : clearTextSampled table t .verdict ≡ Accepted
     accepted = covered t b is table (awarded a .quantities) (award .best .division)
 
-    same : text a ≡ text (clearText table t .award)
-    same = one-text table b a (clearText table t .award) award (found t b is table (awarded a .quantities) (award .best .division)) text shows
+    same : text a ≡ text (clearTextSampled table t .award)
+    same = one-text table b a (clearTextSampled table t .award) award (found t b is table (awarded a .quantities) (award .best .division)) text shows
 
-    pub gets-10 : length out < length (text a) → NothingWritten text (clearText table t) out OutputLength (length (text a))
-    gets-10 = refused-10 text (clearText table t) out accepted a same
+    pub gets-10 : length out < length (text a) → NothingWritten text (clearTextSampled table t) out OutputLength (length (text a))
+    gets-10 = refused-10 text (clearTextSampled table t) out accepted a same
 
-    pub gets-text : length (text a) ≤ length out → WholeText text (clearText table t) out a
-    gets-text = text-written text (clearText table t) out accepted a same
+    pub gets-text : length (text a) ≤ length out → WholeText text (clearTextSampled table t) out a
+    gets-text = text-written text (clearTextSampled table t) out accepted a same

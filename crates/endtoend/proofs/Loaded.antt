@@ -19,7 +19,7 @@ use Rattle.roundtrip.proofs.Tables.{printed-entries, printed-read}
 use Rattle.clearing.specs.declared.Clearing.{Clearing}
 use Rattle.clearing.specs.Clearing.{refusedClearing}
 use Rattle.tableanswers.specs.TableAnswers.{tableIn}
-use Rattle.tender.specs.FromText.{clearText, clearedByTable, clearedByPrinted}
+use Rattle.tender.specs.FromText.{clearTextSampled, clearedByTable, clearText}
 use Rattle.endtoend.specs.ByTable.{AcceptedTable}
 
 module _ (s t : List ℕ) where
@@ -27,13 +27,13 @@ module _ (s t : List ℕ) where
   unfolding clearedByTable
   refused-table rule place e = rw e
 
-  pub loaded-table : readTableOf s .verdict ≡ Accepted → clearedByTable s t ≡ clearText (tableIn s) t
+  pub loaded-table : readTableOf s .verdict ≡ Accepted → clearedByTable s t ≡ clearTextSampled (tableIn s) t
   unfolding clearedByTable
   loaded-table e = rw e
 
   -- what holds of a refusal of the table, and of the answer by a table that passes, holds of the answer
   pub either-way : (P : Clearing → Type 0) → ((rule : Rule) (place : ℕ) → readTableOf s .verdict ≡ Refused rule place → P (refusedClearing (Refused rule place)))
-      → (readTableOf s .verdict ≡ Accepted → P (clearText (tableIn s) t)) → P (clearedByTable s t)
+      → (readTableOf s .verdict ≡ Accepted → P (clearTextSampled (tableIn s) t)) → P (clearedByTable s t)
   either-way P refused accepted = go (readTableOf s .verdict) refl
     where
       go : (v : Verdict) → readTableOf s .verdict ≡ v → P (clearedByTable s t)
@@ -53,12 +53,12 @@ module _ (s : List ℕ) (e : TableEntries) (is : AcceptedTable s e) where
   keeps-12 = ap tableVerdict (sym (entries-of-record e (is .says .text .well-formed) (is .accepted))) ∙ is .accepted
 
   -- what is answered is what is answered by this table
-  pub by-table : (t : List ℕ) → clearedByTable s t ≡ clearText e t
-  by-table t = loaded-table s t (ap (λ (r : TableRead). r .verdict) read-as-table) ∙ ap (λ (x : TableEntries). clearText x t) same-table
+  pub by-table : (t : List ℕ) → clearedByTable s t ≡ clearTextSampled e t
+  by-table t = loaded-table s t (ap (λ (r : TableRead). r .verdict) read-as-table) ∙ ap (λ (x : TableEntries). clearTextSampled x t) same-table
 
 -- with the text of the printed table everything is as without a table
-pub as-printed : (t : List ℕ) → clearedByTable (tableText printedTable) t ≡ clearedByPrinted t
+pub as-printed : (t : List ℕ) → clearedByTable (tableText printedTable) t ≡ clearText t
 as-printed t =
     loaded-table (tableText printedTable) t (ap (λ (r : TableRead). r .verdict) printed-read)
-    ∙ ap (λ (r : TableRead). clearText (tableEntries (r .table)) t) printed-read
-    ∙ ap (λ (x : TableEntries). clearText x t) printed-entries
+    ∙ ap (λ (r : TableRead). clearTextSampled (tableEntries (r .table)) t) printed-read
+    ∙ ap (λ (x : TableEntries). clearTextSampled x t) printed-entries

@@ -26,10 +26,10 @@ use Rattle.roundtrip.proofs.Reading.{Answered, by-length, by-reading, read-answ
 use Rattle.roundtrip.proofs.Back.{book-accepted}
 use Rattle.divisions.specs.Award.{Priced, awardOfBook}
 use Rattle.clearing.specs.declared.Clearing.{Clearing}
-use Rattle.clearing.specs.Clearing.{clearOf}
+use Rattle.clearing.specs.Clearing.{clearSampled}
 use Rattle.clearing.proofs.Answers.{no-division, division}
 use Rattle.bookanswers.specs.BookAnswers.{bookOf}
-use Rattle.tender.specs.FromText.{clearText}
+use Rattle.tender.specs.FromText.{clearTextSampled}
 
 -- another rule, at such a place
 abbrev pub OfText : Rule → ℕ → Type 0
@@ -57,10 +57,10 @@ book-before b = go (bookVerdict (bookEntries (bookRecord b))) refl
           omega (arith, record-line record-of rule line (few-bids b) e),
         )
 
-clear-before : (table : TableEntries) (b : BookEntries) → bookVerdict b ≡ Accepted → BeforeOutput (clearOf table b .verdict)
+clear-before : (table : TableEntries) (b : BookEntries) → bookVerdict b ≡ Accepted → BeforeOutput (clearSampled table b .verdict)
 clear-before table b accepted = go (awardOfBook b) refl
   where
-    go : (o : Option Priced) → awardOfBook b ≡ o → BeforeOutput (clearOf table b .verdict)
+    go : (o : Option Priced) → awardOfBook b ≡ o → BeforeOutput (clearSampled table b .verdict)
     go none e = subst (λ (c : Clearing). BeforeOutput (c .verdict)) (sym (no-division table b accepted e)) (refl, omega arith)
     go (some award) e = subst (λ (c : Clearing). BeforeOutput (c .verdict)) (sym (division table b award accepted e)) tt
 
@@ -77,10 +77,10 @@ module _ (t : List ℕ) where
       go (by-reading h (of-shape b it) e) = told _ e (book-before b)
       go (by-reading h (not-of-shape n no-book it) e) = told _ e (refl, omega (arith, it .within))
 
-  pub before-output : (table : TableEntries) → BeforeOutput (clearText table t .verdict)
-  unfolding clearText
+  pub before-output : (table : TableEntries) → BeforeOutput (clearTextSampled table t .verdict)
+  unfolding clearTextSampled
   before-output table = go (readOf t .verdict) refl
     where
-      go : (v : Verdict) → readOf t .verdict ≡ v → BeforeOutput (clearText table t .verdict)
+      go : (v : Verdict) → readOf t .verdict ≡ v → BeforeOutput (clearTextSampled table t .verdict)
       go Accepted e = rw e (clear-before table (bookOf t) (book-accepted t e))
       go (Refused rule place) e = let small : BeforeOutput (Refused rule place) = rw e at read-before in rw e small

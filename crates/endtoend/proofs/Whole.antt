@@ -29,11 +29,11 @@ use Rattle.roundtrip.proofs.Back.{book-accepted}
 use Rattle.divisions.specs.Award.{Priced, awardOfBook}
 use Rattle.award.specs.declared.Award.{Award}
 use Rattle.clearing.specs.declared.Clearing.{Clearing}
-use Rattle.clearing.specs.Clearing.{clearOf}
+use Rattle.clearing.specs.Clearing.{clearSampled}
 use Rattle.clearing.proofs.Answers.{no-division, division}
 use Rattle.awardtheorems.proofs.Cleared.{no-award-of-book}
 use Rattle.bookanswers.specs.BookAnswers.{bookOf}
-use Rattle.tender.specs.FromText.{clearText, writtenAs, outputAs}
+use Rattle.tender.specs.FromText.{clearTextSampled, writtenAs, outputAs}
 use Rattle.endtoend.proofs.ClearedText.{cleared-book, accepted-text, was-read, its-award}
 use Rattle.endtoend.specs.Outcome.{AcceptedText, NothingWritten, WholeText, Outcome, too-long, not-of-shape as other-shape, broken, not-covered, output-short, award-written}
 
@@ -68,13 +68,13 @@ module _ (text : Award → List ℕ) (cleared : Clearing) (out : List ℕ) where
 
 module _ (text : Award → List ℕ) (table : TableEntries) (t out : List ℕ) where
   abbrev c : Clearing
-  c = clearText table t
+  c = clearTextSampled table t
 
   abbrev TextOutcome : Type 0
   TextOutcome = Outcome text table t c out
 
   pub refused-text : (rule : Rule) (place : ℕ) → readOf t .verdict ≡ Refused rule place → NothingWritten text c out rule place
-  unfolding clearText
+  unfolding clearTextSampled
   refused-text rule place e = nothing-written text c out rule place (rw e)
 
   covered : c .verdict ≡ Accepted → TextOutcome
@@ -94,7 +94,7 @@ module _ (text : Award → List ℕ) (table : TableEntries) (t out : List ℕ) w
   accepted-outcome : readOf t .verdict ≡ Accepted → TextOutcome
   accepted-outcome accepted = go (awardOfBook (bookOf t)) refl
     where
-      told : (x : Clearing) → clearOf table (bookOf t) ≡ x → c .verdict ≡ x .verdict
+      told : (x : Clearing) → clearSampled table (bookOf t) ≡ x → c .verdict ≡ x .verdict
       told x e = ap (λ (y : Clearing). y .verdict) (cleared-book t accepted table ∙ e)
 
       go : (o : Option Priced) → awardOfBook (bookOf t) ≡ o → TextOutcome
@@ -113,7 +113,7 @@ module _ (text : Award → List ℕ) (table : TableEntries) (t out : List ℕ) w
 
   -- Whatever bytes a text has: if it is accepted and covered, the bytes written are the text of the award that no other division beats, or
   -- the output is too short for it; else the refusal is the stated one.
-  pub whole : Outcome text table t (clearText table t) out
+  pub whole : Outcome text table t (clearTextSampled table t) out
   unfolding answer
   whole = go (read-answered t)
     where

@@ -18,7 +18,7 @@ use Rattle.award.specs.declared.Total.{Total}
 use Rattle.award.specs.declared.Total.the-variants.{Amount, Nothing}
 use Rattle.award.specs.declared.Row.{Row}
 use Rattle.award.specs.declared.Award.{Award}
-use Rattle.clearing.specs.Clearing.{clearOf}
+use Rattle.clearing.specs.Clearing.{clearSampled}
 use Rattle.awardtheorems.specs.Awarded.{rowsOf}
 use Rattle.awardtheorems.proofs.Costs.{UpTo, mostTotal}
 use Rattle.awardtheorems.proofs.Amounts.{SmallSamples, TotalUpTo, RowUpTo, demand-up-to, total-from-zero}
@@ -54,9 +54,9 @@ row-from-zero : (row : Row) → RowUpTo row → RowFromZero row
 row-from-zero row h = record { price = h .price .not-negative; without = without-from-zero (row .without) (h .without) }
 
 module _ (table : TableEntries) (small : SmallSamples table) (book : Book) (held : length (book .bids) ≡ 8)
-    (accepted : clearOf table (bookEntries book) .verdict ≡ Accepted) where
+    (accepted : clearSampled table (bookEntries book) .verdict ≡ Accepted) where
   abbrev a : Award
-  a = clearOf table (bookEntries book) .award
+  a = clearSampled table (bookEntries book) .award
 
   up-to : All RowUpTo (rowsOf a)
   up-to = every-row RowUpTo a (each-up-to table small book held accepted)

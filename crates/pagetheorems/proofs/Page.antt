@@ -14,7 +14,7 @@ use Rattle.output.proofs.Answers.{accepted-before, text-written}
 use Rattle.sampling.specs.Entries.{TableEntries}
 use Rattle.sampling.specs.Sampling.{printedTable}
 use Rattle.award.specs.declared.Award.{Award}
-use Rattle.clearing.specs.Clearing.{clearOf}
+use Rattle.clearing.specs.Clearing.{clearSampled}
 use Rattle.awardtheorems.proofs.Amounts.{SmallSamples}
 use Rattle.sheettext.specs.Sheet.{sheetText}
 use Rattle.pagetext.specs.Page.{pageText}
@@ -23,7 +23,7 @@ use Rattle.pagetext.specs.Fits.{PageLines}
 use Rattle.pagetext.specs.ThePage.{ThePage}
 use Rattle.pagetext.proofs.Page.{lines-length, page-lines}
 use Rattle.pagetext.proofs.ReadBack.{award-back}
-use Rattle.tender.specs.FromText.{clearText, clearedByTable, writtenAs, outputAs, printedAs, clearedByPrinted, sheetWritten, pageWritten, pageOutput, pagePrints}
+use Rattle.tender.specs.FromText.{clearTextSampled, clearedByTable, writtenAs, outputAs, printedAs, clearText, sheetWritten, pageWritten, pageOutput, pagePrints}
 use Rattle.endtoend.proofs.ClearedText.{of-records}
 use Rattle.endtoend.proofs.Fits.{few, printed-small, sheet-verdict}
 use Rattle.endtoend.proofs.Places.{before-output}
@@ -35,9 +35,9 @@ use Rattle.pagetheorems.proofs.Rows.{complete}
 -- by a table without large samples
 module _ (table : TableEntries) (small : SmallSamples table) where
   -- of a cleared record
-  pub the-page : (book : Book) → length (book .bids) ≡ 8 → clearOf table (bookEntries book) .verdict ≡ Accepted → ThePage (clearOf table (bookEntries book) .award)
+  pub the-page : (book : Book) → length (book .bids) ≡ 8 → clearSampled table (bookEntries book) .verdict ≡ Accepted → ThePage (clearSampled table (bookEntries book) .award)
   the-page book held accepted =
-      let a = clearOf table (bookEntries book) .award in
+      let a = clearSampled table (bookEntries book) .award in
       let fits = page-fits table small book held accepted in
       let whole = complete table book held accepted in
       let lines = subst (λ (n : ℕ). PageLines (n + 1) (pageText a)) (whole .many) (page-lines a fits) in
@@ -49,9 +49,9 @@ module _ (table : TableEntries) (small : SmallSamples table) where
       }
 
   -- of a cleared text
-  module _ (t : List ℕ) (accepted : clearText table t .verdict ≡ Accepted) where
+  module _ (t : List ℕ) (accepted : clearTextSampled table t .verdict ≡ Accepted) where
     abbrev a : Award
-    a = clearText table t .award
+    a = clearTextSampled table t .award
 
     pub text-page : ThePage a
     text-page = of-records table t accepted (λ (b : BookEntries) (x : Award). ThePage x) the-page
@@ -67,25 +67,25 @@ module _ (table : TableEntries) (small : SmallSamples table) where
 module _ (t : List ℕ) where
   pub page-prints-fit : length (pagePrints t) ≤ 585
   page-prints-fit =
-      printed-fits pageText 585 (clearedByPrinted t) (before-output t printedTable) (λ e. text-page printedTable printed-small t e .short) (omega arith)
+      printed-fits pageText 585 (clearText t) (before-output t printedTable) (λ e. text-page printedTable printed-small t e .short) (omega arith)
 
   module _ (out : List ℕ) (enough : 585 ≤ length out) where
     pub page-never-short : (place : ℕ) → pageWritten t (length out) .verdict ≡ Refused OutputLength place → ⊥
     page-never-short =
-        never-10 pageText 585 (clearedByPrinted t) (before-output t printedTable) (λ e. text-page printedTable printed-small t e .short) out enough
+        never-10 pageText 585 (clearText t) (before-output t printedTable) (λ e. text-page printedTable printed-small t e .short) out enough
 
     -- a page is refused exactly where a sheet is, each in an output that is long enough
     pub as-sheet : (other : List ℕ) → 600 ≤ length other → pageWritten t (length out) .verdict ≡ sheetWritten t (length other) .verdict
     as-sheet other k =
-        same-verdict pageText 585 (clearedByPrinted t) (before-output t printedTable) (λ e. text-page printedTable printed-small t e .short) out enough
+        same-verdict pageText 585 (clearText t) (before-output t printedTable) (λ e. text-page printedTable printed-small t e .short) out enough
         ∙ sym (sheet-verdict t other k)
 
 -- the bytes that are written, as many as are answered, give the award again
 module _ (t out : List ℕ) (accepted : pageWritten t (length out) .verdict ≡ Accepted) where
-  pub written-read : awardIn (take (pageWritten t (length out) .bytes) (pageOutput t out)) ≡ clearedByPrinted t .award
+  pub written-read : awardIn (take (pageWritten t (length out) .bytes) (pageOutput t out)) ≡ clearText t .award
   unfolding writtenAs outputAs writtenOf
   written-read =
-      let c = clearedByPrinted t in
+      let c = clearText t in
       let page = pageText (c .award) in
       ap awardIn (text-written (c .verdict) page out accepted)
       ∙ text-page printedTable printed-small t (accepted-before (c .verdict) page out accepted) .read

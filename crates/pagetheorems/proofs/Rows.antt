@@ -16,14 +16,14 @@ use Rattle.divisions.proofs.Award.{as-many}
 use Rattle.award.specs.declared.Row.{Row}
 use Rattle.award.specs.Award.{noRow}
 use Rattle.clearing.specs.declared.Clearing.{Clearing}
-use Rattle.clearing.specs.Clearing.{rowsFrom, awardRecord, clearOf}
+use Rattle.clearing.specs.Clearing.{rowsFrom, awardRecord, clearSampled}
 use Rattle.clearing.proofs.Made.{length-rows}
 use Rattle.awardtheorems.proofs.Answers.{Cleared, cleared}
 use Rattle.awardtheorems.proofs.Cleared.{award-of-book}
 use Rattle.awardtheorems.proofs.Counts.{few-bids, bids-counted}
 use Rattle.pagetext.proofs.ReadBack.{Complete}
 
-module _ (table : TableEntries) (book : Book) (held : length (book .bids) ≡ 8) (accepted : clearOf table (bookEntries book) .verdict ≡ Accepted) where
+module _ (table : TableEntries) (book : Book) (held : length (book .bids) ≡ 8) (accepted : clearSampled table (bookEntries book) .verdict ≡ Accepted) where
   abbrev b : BookEntries
   b = bookEntries book
 
@@ -50,5 +50,5 @@ module _ (table : TableEntries) (book : Book) (held : length (book .bids) ≡ 8)
     past = ap (padded 8 noRow) (sym (take-count 8 (b .count) noRow listed (sym as-listed) few));
   }
 
-  pub complete : Complete (clearOf table b .award)
+  pub complete : Complete (clearSampled table b .award)
   complete = subst (λ (x : Clearing). Complete (x .award)) (sym (c .answer)) made-complete

@@ -11,12 +11,12 @@ use Rattle.clearing.specs.declared.Clearing.{Clearing}
 use Rattle.awardwriter.specs.declared.Layout.{Layout}
 use Rattle.awardwriter.specs.declared.Layout.the-variants.{Sheet, Page}
 use Rattle.awardwriter.specs.Layout.{layoutText}
-use Rattle.tender.specs.FromText.{clearedByTable, printedAs, clearedByPrinted}
+use Rattle.tender.specs.FromText.{clearedByTable, printedAs, clearText}
 use Rattle.endtoend.proofs.Fits.{prints-fit}
 use Rattle.endtoend.proofs.FitsByTable.{prints-fit-by-table}
 use Rattle.pagetheorems.proofs.Page.{page-prints-fit, page-prints-fit-by-table}
 
-pub fits : (layout : Layout) (t : List ℕ) → length (printedAs (layoutText layout) (clearedByPrinted t)) ≤ 600
+pub fits : (layout : Layout) (t : List ℕ) → length (printedAs (layoutText layout) (clearText t)) ≤ 600
 fits Sheet t = prints-fit t
 fits Page t = omega (arith, page-prints-fit t)
 

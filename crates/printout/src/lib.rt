@@ -6,7 +6,7 @@ ghost use lib.ListN.{length, take};
 ghost use Rattle.refusal.specs.declared.Verdict.the-variants.{Accepted};
 ghost use Rattle.output.specs.Writing.{writtenOf, outputAfter};
 ghost use Rattle.awardwriter.specs.Layout.{layoutText};
-ghost use Rattle.tender.specs.FromText.{printedAs, clearedByPrinted};
+ghost use Rattle.tender.specs.FromText.{printedAs, clearText};
 
 mod by_table;
 
@@ -33,7 +33,7 @@ fn write(layout: Layout, cleared: Clearing, out: &mut [u8]) -> TextWritten
 // bytes hold it.
 pub fn print(layout: Layout, text: &[u8], out: &mut [u8]) -> usize
     requires { ⌜ length (now out) ≡ 600 ⌝ }
-    ensures { λ r. ⌜ take r (now (out .exit)) ≡ printedAs (layoutText layout) (clearedByPrinted (now (text .entry))) ⌝ }
+    ensures { λ r. ⌜ take r (now (out .exit)) ≡ printedAs (layoutText layout) (clearText (now (text .entry))) ⌝ }
     ensures { λ r. ⌜ r ≤ length (now (out .exit)) ⌝ }
 {
     let cleared = tender::clear(text);

@@ -42,9 +42,16 @@ pub fn held(count: usize) -> usize
     count
 }
 
-// The sample of a quantity by a table: that of the band in which it lies. Quantity 0 samples 0, and so does one that lies in no band, which
-// no award has with a table that passes.
-pub fn sample(table: Table, quantity: Blanks) -> Blanks
+// The sample by the printed table. Quantity 0 samples 0, and so does one above 1,000,000, which lies in no band and which no award has.
+pub fn sample(quantity: Blanks) -> Blanks
+    ensures { λ r. ⌜ r .0 ≡ sampleOf printedTable (quantity .0) ⌝ }
+{
+    let table = printed();
+    sample_by_table(table, quantity)
+}
+
+// The sample by a table: that of the band in which the quantity lies, 0 where it lies in none.
+pub fn sample_by_table(table: Table, quantity: Blanks) -> Blanks
     ensures { λ r. ⌜ r .0 ≡ sampleOf (tableEntries table) (quantity .0) ⌝ }
 {
     let q = quantity.0;

@@ -1,14 +1,14 @@
 // The award of a text.
 ghost use mathlib.Core.Path.{_≡_};
 ghost use Rattle.sampling.specs.Entries.{tableEntries};
-ghost use Rattle.tender.specs.FromText.{clearText, clearedByPrinted};
+ghost use Rattle.tender.specs.FromText.{clearTextSampled, clearText};
 use clearing::Clearing;
 use refusal::Verdict;
 use sampling::Table;
 
 // The award of a text's book, sampled by a table. It is no entry: it does not look whether the table passes.
 pub fn clear_sampled(table: Table, text: &[u8]) -> Clearing
-    ensures { λ r. ⌜ r ≡ clearText (tableEntries table) (now (text .entry)) ⌝ }
+    ensures { λ r. ⌜ r ≡ clearTextSampled (tableEntries table) (now (text .entry)) ⌝ }
 {
     let read = bookreader::read(text);
     let verdict = read.verdict;
@@ -21,7 +21,7 @@ pub fn clear_sampled(table: Table, text: &[u8]) -> Clearing
 
 // The award of a text's book, sampled by the printed table.
 pub fn clear(text: &[u8]) -> Clearing
-    ensures { λ r. ⌜ r ≡ clearedByPrinted (now (text .entry)) ⌝ }
+    ensures { λ r. ⌜ r ≡ clearText (now (text .entry)) ⌝ }
 {
     let table = sampling::printed();
     clear_sampled(table, text)

@@ -26,7 +26,7 @@ use Rattle.award.specs.declared.Row.{Row}
 use Rattle.award.specs.Award.{noRow, rowOf}
 use Rattle.without.specs.Without.{bookWithout, totalOf, totalWithout}
 use Rattle.clearing.specs.declared.Clearing.{Clearing}
-use Rattle.clearing.specs.Clearing.{rowsFrom, awardRecord, clearedBook, clearOf, refusedClearing}
+use Rattle.clearing.specs.Clearing.{rowsFrom, awardRecord, clearedBook, clearSampled, refusedClearing}
 
 abbrev searchedBook : BookEntries → Option Priced
 searchedBook b = searched (b .demand) (suppliesOf (b .bids))
@@ -81,11 +81,11 @@ module _ (table : TableEntries) (b : BookEntries) (bids : All AcceptedBid (b .bi
       }) (rows 0 (b .bids) (award .quantities))
 
 -- a book that is refused by rules 3 to 8 has one answer, and else the search decides
-pub model-is : (table : TableEntries) (b : BookEntries) → modelOf table b ≡ clearOf table b
-unfolding clearOf
+pub model-is : (table : TableEntries) (b : BookEntries) → modelOf table b ≡ clearSampled table b
+unfolding clearSampled
 model-is table b = go (bookVerdict b) refl
   where
-    go : (v : Verdict) → bookVerdict b ≡ v → modelOf table b ≡ clearOf table b
+    go : (v : Verdict) → bookVerdict b ≡ v → modelOf table b ≡ clearSampled table b
     go Accepted e =
         let bids = all-accepted b e in
         rw e (ap (modelCleared table b) (found b bids) ∙ answers table b bids (awardOfBook b))

@@ -16,7 +16,7 @@ use Rattle.bookreader.proofs.Answers.{read-text, accepted-answer}
 use Rattle.sampling.specs.Sampling.{printedTable}
 use Rattle.clearing.specs.Clearing.{clearOf}
 use Rattle.clearing.proofs.Answers.{rules-first}
-use Rattle.tender.specs.FromText.{clearText, clearedByPrinted, clearPrints, printedAs}
+use Rattle.tender.specs.FromText.{clearTextSampled, clearText, clearPrints, printedAs}
 use Rattle.workedcases.specs.Table.{Case, table}
 use Rattle.workedcases.proofs.Model.{model-is}
 use Rattle.workedcases.proofs.Books.{books}
@@ -25,12 +25,12 @@ use Rattle.workedcases.proofs.Computed.{computed}
 
 -- a text that is read as a book's record is cleared as the book
 module _ (t : List ℕ) (b : BookEntries) (read : readOf t ≡ bookAnswer b) (fits : bookEntries (bookRecord b) ≡ b) where
-  cleared-as : clearedByPrinted t ≡ clearOf printedTable b
-  unfolding clearText bookAnswer
+  cleared-as : clearText t ≡ clearOf b
+  unfolding clearTextSampled bookAnswer
   cleared-as = go (bookVerdict (bookEntries (bookRecord b))) refl
     where
-      go : (v : Verdict) → bookVerdict (bookEntries (bookRecord b)) ≡ v → clearedByPrinted t ≡ clearOf printedTable b
-      go Accepted e = rw (read ∙ accepted-answer b e) (ap (clearOf printedTable) fits)
+      go : (v : Verdict) → bookVerdict (bookEntries (bookRecord b)) ≡ v → clearText t ≡ clearOf b
+      go Accepted e = rw (read ∙ accepted-answer b e) (ap clearOf fits)
       go (Refused rule line) e =
           let told : readOf t .verdict ≡ Refused rule line = ap (λ (r : BookRead). r .verdict) read ∙ e in
           rw told (sym (rules-first printedTable b rule line (ap bookVerdict (sym fits) ∙ e)))

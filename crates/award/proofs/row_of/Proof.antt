@@ -6,7 +6,7 @@ use Rattle.award.proofs.row_of.Tie as tie
 
 returns : tie.Need-returns
 returns c =
-    row-is _ _ _ _ _ _ _ (c .before .before .segment-number .ensures) (c .before .price-of .ensures) (c .sample .ensures)
+    row-is _ _ _ _ _ _ _ (c .before .before .segment-number .ensures) (c .before .price-of .ensures) (c .sample-by-table .ensures)
 
 pub row-of-spec : {M : Type 1} → statement M
 row-of-spec =

@@ -8,13 +8,13 @@ use Rattle.output.proofs.Cases.{if-refused, if-accepted}
 use Rattle.sampling.specs.declared.Table.{Table}
 use Rattle.sampling.specs.Entries.{tableEntries}
 use Rattle.clearing.specs.declared.Clearing.{Clearing}
-use Rattle.clearing.specs.Clearing.{refusedClearing, clearOf, clearByTable}
+use Rattle.clearing.specs.Clearing.{refusedClearing, clearSampled, clearByTable}
 use Rattle.clearing.proofs.clear_by_table.Statement.{statement}
 use Rattle.clearing.proofs.clear_by_table.Tie as tie
 
 -- the answer where the table passes
 abbrev sampled : Table → Book → Verdict → Clearing
-sampled table book verdict = clearOf (tableEntries table) (bookEntries book)
+sampled table book verdict = clearSampled (tableEntries table) (bookEntries book)
 
 returns : tie.Need-returns
 unfolding clearByTable

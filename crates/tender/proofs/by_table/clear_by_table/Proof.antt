@@ -8,12 +8,12 @@ use Rattle.sampling.specs.Entries.{tableEntries}
 use Rattle.tablereader.specs.declared.TableRead.{TableRead}
 use Rattle.clearing.specs.declared.Clearing.{Clearing}
 use Rattle.clearing.specs.Clearing.{refusedClearing}
-use Rattle.tender.specs.FromText.{clearText, clearedByTable}
+use Rattle.tender.specs.FromText.{clearTextSampled, clearedByTable}
 use Rattle.tender.proofs.by_table.clear_by_table.Statement.{statement}
 use Rattle.tender.proofs.by_table.clear_by_table.Tie as tie
 
 abbrev accepted : List ℕ → TableRead → Clearing
-accepted t read = clearText (tableEntries (read .table)) t
+accepted t read = clearTextSampled (tableEntries (read .table)) t
 
 abbrev refused : TableRead → Clearing
 refused read = refusedClearing (read .verdict)
