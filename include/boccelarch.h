@@ -19,21 +19,21 @@
  * sampled by the printed table of sixteen bands, which boccelarch_printed_table writes, or, by a function whose name ends in _by_table, by the
  * table that is passed before the book.
  *
- * Every function takes the bytes of a bid book or of a table, which need not end with a 0, and returns the number of the refusal, 0 where
- * nothing is refused. It always sets *place to the place of the refusal (a line, a place in the text, or a length), 0 where nothing is refused, and
- * every other number behind a pointer; with a refusal those are 0.
+ * The functions take the bytes of a bid book, of a table or of both, which need not end with a 0, and return the number of the refusal, 0 where
+ * nothing is refused. They always set *place to the place of the refusal (a line, a place in the text, or a length), 0 where nothing is
+ * refused, and every other number behind a pointer; with a refusal those are 0.
  *
  * With a refusal not one byte of a lent output is changed. Without one, exactly *bytes bytes are written at its beginning (by
- * boccelarch_award, *count rows of BOCCELARCH_COLUMNS numbers), and those past them stay as they were. No byte outside of what was lent is
- * read or written.
+ * boccelarch_award and boccelarch_award_by_table, *count rows of BOCCELARCH_COLUMNS numbers), and those past them stay as they were. No byte
+ * outside of what was lent is read or written.
  *
  * What is asked of a caller: each pointer is valid for the length beside it, also where that is 0 (so it is never NULL); uint64_t and
  * int64_t are aligned; and what is written to (outputs, lists of rows, numbers behind pointers) overlaps nothing else that is passed. The
  * functions keep no state, allocate nothing and may be called from several threads at once.
  *
  * A thread with a stack of 64 KB can call each of them: tests/boundary/run checks it on a book of eight bids of six segments.
- * With boccelarch_sheet, boccelarch_page and boccelarch_award, by a table or not, most books are cleared in about a millisecond or less, the slowest known in
- * 0.12 s (bench/RESULTS.md).
+ * With boccelarch_sheet, boccelarch_page and boccelarch_award, by a table or not, most books are cleared in about a millisecond or less, the
+ * slowest known in 0.12 s (bench/RESULTS.md).
  *
  * That the functions answer what docs/CLAIMS.md states is proved, for every text and every length.
  */
