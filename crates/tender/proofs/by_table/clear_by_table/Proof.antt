@@ -3,7 +3,7 @@ use Prim.Native.Nat.{ℕ}
 use mathlib.Core.List.{List}
 use mathlib.Core.Path.{_∙_}
 use borrow.Author.Needs.{needs}
-use Rattle.output.proofs.Cases.{if-refused, if-accepted}
+use Rattle.output.proofs.Cases.{if-accepted}
 use Rattle.sampling.specs.Entries.{tableEntries}
 use Rattle.tablereader.specs.declared.TableRead.{TableRead}
 use Rattle.clearing.specs.declared.Clearing.{Clearing}
@@ -18,11 +18,10 @@ accepted t read = clearTextSampled (tableEntries (read .table)) t
 abbrev refused : TableRead → Clearing
 refused read = refusedClearing (read .verdict)
 
+-- a refused table has no award beside it, whatever a table that passes gives
 returns : tie.Need-returns
 unfolding clearedByTable
-returns c =
-    let read = c .before .before .before in
-    c .refused .ensures ∙ if-refused (λ (r : TableRead). r .verdict) (read .read .ensures) (c .before .enum-told .given .1) (accepted (read .before .before .before .args .text .now)) refused
+returns c = c .refused .ensures ∙ rw (← (c .before .before .before .read .ensures), c .before .enum-told .given .1)
 
 returns-2 : tie.Need-returns-2
 unfolding clearedByTable
