@@ -23,10 +23,10 @@ use Rattle.supply.specs.Sound.{mostBlanks, priceLimit, SoundSegment}
 use Rattle.supply.proofs.Sound.{price-small}
 use Rattle.divisions.specs.Award.{Priced}
 use Rattle.choices.specs.Choice.{starts, ends, fits, width, extra, extras, placed, costWith, filled}
+use Rattle.choicerecord.specs.declared.Choice.{Choice}
+use Rattle.choicerecord.specs.Records.{segmentAt, firstSegments, chosen, Sound}
+use Rattle.choicerecord.proofs.Choosing.{sound-at}
 use Rattle.comparison.specs.Records.{blanksIn}
-use Rattle.meritorder.specs.declared.Choice.{Choice}
-use Rattle.meritorder.specs.Records.{segmentAt, firstSegments, chosen, Sound}
-use Rattle.meritorder.proofs.Sums.{sound-at}
 
 -- whether a choice fits, from the two sums
 module _ (demand : ℕ) (c : List Segment) (low : ℕ) (starts-are : low ≡ starts c) where

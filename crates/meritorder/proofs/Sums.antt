@@ -7,18 +7,17 @@ use mathlib.Core.List.{List, [], _∷_}
 use mathlib.Core.Path.{_≡_, refl, sym, ap, _∙_}
 use borrow.Author.Tests.{le-leb, lt-leb}
 use lib.Dec.{leb}
-use Rattle.lists.proofs.Latest.{latest-none, latest-next, latest-at}
+use Rattle.lists.proofs.Latest.{latest-none, latest-next}
 use Rattle.book.specs.declared.Segment.{Segment}
 use Rattle.supply.specs.Supply.{segment0}
 use Rattle.supply.specs.Sound.{mostBlanks, SoundSegment}
 use Rattle.choices.specs.Choice.{starts, ends, width, widthAt, cheaper}
-use Rattle.meritorder.specs.declared.Choice.{Choice}
-use Rattle.meritorder.specs.Records.{segmentAt, firstSegments, Sound, HasFirst}
+use Rattle.choicerecord.specs.declared.Choice.{Choice}
+use Rattle.choicerecord.specs.Records.{segmentAt, firstSegments, Sound}
+use Rattle.choicerecord.proofs.Choosing.{sound-at}
+use Rattle.meritorder.specs.Asked.{HasFirst}
 
--- a sound choice: each of its segments, and all of them
-pub sound-at : {c : Choice} → Sound c → (i : ℕ) → i < c .count → SoundSegment (segmentAt c i)
-sound-at {c} sound i h = latest-at segment0 SoundSegment (c .segments) (c .count) i (sound .each) h
-
+-- a choice has all of its segments
 pub has-all : {c : Choice} → Sound c → HasFirst c (c .count)
 has-all sound = record { sound = sound; within = omega arith }
 

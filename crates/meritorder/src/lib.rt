@@ -4,19 +4,15 @@ ghost use mathlib.Core.Bool.{true};
 ghost use Prim.Native.Nat.{_+_};
 ghost use lib.Dec.{leb};
 ghost use Rattle.choices.specs.Choice.{starts, ends, fits, cheaper, extra, filled};
+ghost use Rattle.choicerecord.specs.Records.{segmentAt, firstSegments, chosen, Sound};
 ghost use Rattle.comparison.specs.Records.{divisionIn};
-ghost use Rattle.meritorder.specs.Records.{segmentAt, firstSegments, chosen, Sound, HasFirst, Fillable};
+ghost use Rattle.meritorder.specs.Asked.{HasFirst, Fillable};
 use book::Segment;
+use choicerecord::Choice;
 use comparison::MaybeDivision;
 use money::Blanks;
 use money::Cents;
 use money::CentsPerBlank;
-
-// A segment chosen for each of the first `count` bidders, in book order; the others are ignored.
-pub struct Choice {
-    pub count: usize,
-    pub segments: [Segment; 8],
-}
 
 // The starts of the chosen segments, added up afresh where a choice is tested. A sum is a plain number
 // while it is added up.

@@ -6,10 +6,10 @@ use lib.ListN.{length, getD, drop}
 use Rattle.lists.proofs.Members.{in-at}
 use Rattle.book.specs.declared.Segment.{Segment}
 use Rattle.supply.specs.Supply.{segment0}
-use Rattle.meritorder.specs.declared.Choice.{Choice}
-use Rattle.meritorder.specs.Records.{chosen}
+use Rattle.choicerecord.specs.declared.Choice.{Choice}
+use Rattle.choicerecord.specs.Records.{chosen}
+use Rattle.choicerecord.proofs.Choosing.{nothing-chosen}
 use Rattle.search.specs.ChosenFrom.{ChosenFrom}
-use Rattle.search.proofs.Steps.{nothing-chosen}
 
 -- the choice has a segment of each of the first bidders
 module _ (supplies : List (List Segment)) (c : Choice) where

@@ -6,20 +6,20 @@ use mathlib.Core.List.{List}
 use mathlib.Core.Path.{_≡_, sym, subst}
 use lib.ListN.{length, drop, length-drop}
 use Rattle.lists.specs.All.{All}
-use Rattle.lists.proofs.Latest.{length-latest}
 use Rattle.lists.proofs.Removed.{map-drop, all-drop}
 use Rattle.book.specs.declared.Segment.{Segment}
 use Rattle.book.specs.declared.Book.{Book}
 use Rattle.book.specs.Entries.{BidEntries, bookEntries}
 use Rattle.book.specs.Accepted.{AcceptedBid}
 use Rattle.book.proofs.Bids.{length-entries}
-use Rattle.supply.specs.Supply.{segment0, supplyOf, suppliesOf}
+use Rattle.supply.specs.Supply.{supplyOf, suppliesOf}
 use Rattle.supply.specs.Sound.{SoundSegment}
 use Rattle.choices.specs.Search.{search}
+use Rattle.choicerecord.specs.declared.Choice.{Choice}
+use Rattle.choicerecord.specs.Records.{chosen, Sound}
+use Rattle.choicerecord.proofs.Choosing.{length-chosen}
 use Rattle.comparison.specs.declared.MaybeDivision.{MaybeDivision}
 use Rattle.comparison.specs.Records.{found}
-use Rattle.meritorder.specs.declared.Choice.{Choice}
-use Rattle.meritorder.specs.Records.{chosen, Sound}
 use Rattle.charges.specs.declared.Prices.{Prices}
 use Rattle.charges.specs.declared.Sums.{Sums}
 use Rattle.charges.specs.Records.{Capped, SumsOf, UpTo}
@@ -27,9 +27,6 @@ use Rattle.charges.proofs.Sizes.{sums-up-to}
 use Rattle.completions.specs.Classes.{Covers, Surveyed}
 use Rattle.hopeless.specs.Hopeless.{GivesMore, NothingBetter}
 use Rattle.search.specs.Searchable.{Searchable}
-
-pub length-chosen : (c : Choice) → length (chosen c) ≡ c .count
-length-chosen c = length-latest segment0 (c .segments) (c .count)
 
 -- the sums of a choice are no larger than those of eight bidders
 pub small-sums : (demand : ℕ) (prices : Prices) (c : Choice) (sums : Sums) → Sound c → Capped prices → SumsOf demand prices (chosen c) sums → UpTo 8 sums

@@ -2,12 +2,11 @@
 use Prim.Native.Nat.{ℕ, suc, _+_, _≤_, _<_}
 use native.Mathlib.Omega.{arith}
 use mathlib.Core.Bool.{true, false}
-use mathlib.Core.List.{List, [], _∷_, map}
+use mathlib.Core.List.{List, _∷_, map}
 use mathlib.Core.Option.{Option}
 use mathlib.Core.Path.{_≡_, ap, subst, _∙_}
-use lib.ListN.{length, getD, set, take, drop, drop-of-length-le}
+use lib.ListN.{length, getD, take, drop, drop-of-length-le}
 use lib.Seq.{drop-cons}
-use Rattle.lists.proofs.Latest.{latest-none, latest-set}
 use Rattle.book.specs.declared.Segment.{Segment}
 use Rattle.book.specs.declared.Bid.{Bid}
 use Rattle.book.specs.declared.Book.{Book}
@@ -17,34 +16,15 @@ use Rattle.book.proofs.Records.{noBid}
 use Rattle.book.proofs.Accepted.{accepted-at}
 use Rattle.supply.specs.Supply.{segment0, supplyOf, suppliesOf}
 use Rattle.supply.proofs.Supplies.{supplies-done, supplies-next}
-use Rattle.supply.specs.Sound.{SoundSegment}
 use Rattle.supply.proofs.Accepted.{sound-segment-at}
 use Rattle.divisions.specs.Award.{Priced, pick}
 use Rattle.choices.specs.Choice.{fits, filled}
 use Rattle.choices.specs.Search.{each, leaf, search}
+use Rattle.choicerecord.specs.declared.Choice.{Choice}
+use Rattle.choicerecord.specs.Records.{Choosable}
 use Rattle.comparison.specs.declared.MaybeDivision.{MaybeDivision}
 use Rattle.comparison.specs.Records.{found}
-use Rattle.meritorder.specs.declared.Choice.{Choice}
-use Rattle.meritorder.specs.Records.{chosen, Sound}
-use Rattle.search.specs.Searchable.{Choosable, ChoiceOf}
-
--- A choice: none yet, and one with a segment more.
-
-pub nothing-chosen : (c : Choice) → c .count ≡ 0 → chosen c ≡ []
-nothing-chosen c e = rw e (latest-none segment0 (c .segments))
-
-pub sound-nothing : (ss : List Segment) → Sound (record { count = 0; segments = ss })
-sound-nothing ss = record { few = omega arith; each = rw latest-none tt }
-
-module _ (c : Choice) (s : Segment) (few : c .count < 8) (held : length (c .segments) ≡ 8) where
-  abbrev more : Choice
-  more = record { count = c .count + 1; segments = set (c .segments) (c .count) s }
-
-  pub chosen-more : chosen more ≡ s ∷ chosen c
-  chosen-more = latest-set segment0 (c .segments) (c .count) s (omega arith)
-
-  pub sound-more : Sound c → SoundSegment s → Sound more
-  sound-more sound h = record { few = omega arith; each = rw chosen-more (h, sound .each) }
+use Rattle.search.specs.Searchable.{ChoiceOf}
 
 -- A complete choice.
 module _ (demand : ℕ) (c : List Segment) (o : Option Priced) where

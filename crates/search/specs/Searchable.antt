@@ -9,10 +9,10 @@ use Rattle.book.specs.Accepted.{AcceptedBid}
 use Rattle.supply.specs.Supply.{suppliesOf}
 use Rattle.supply.specs.Sound.{SoundSegment}
 use Rattle.choices.specs.Leaf.{Started}
+use Rattle.choicerecord.specs.declared.Choice.{Choice}
+use Rattle.choicerecord.specs.Records.{chosen, Sound}
 use Rattle.comparison.specs.declared.MaybeDivision.{MaybeDivision}
 use Rattle.comparison.specs.Records.{found}
-use Rattle.meritorder.specs.declared.Choice.{Choice}
-use Rattle.meritorder.specs.Records.{chosen, Sound}
 use Rattle.charges.specs.declared.Prices.{Prices}
 use Rattle.charges.specs.declared.Sums.{Sums}
 use Rattle.charges.specs.Records.{Capped, SumsOf}
@@ -27,12 +27,6 @@ pub record Searchable (b : BookEntries) : Type 0 where
 pub record StartedWith (book : Book) (best : MaybeDivision) : Type 0 where
   pub searchable : Searchable (bookEntries book)
   pub started : Started (book .demand .0) (suppliesOf (bookEntries book .bids)) (found (book .count) best)
-
--- what `choose` asks: a choice of fewer than eight bidders, and a segment
-pub record Choosable (c : Choice) (s : Segment) : Type 0 where
-  pub choice : Sound c
-  pub segment : SoundSegment s
-  pub not-full : c .count < 8
 
 -- a book, and a choice for the first of its bidders, for none or for all
 pub record ChoiceOf (book : Book) (c : Choice) : Type 0 where

@@ -3,10 +3,10 @@ ghost use mathlib.Core.Path.{_≡_};
 ghost use lib.ListN.{take};
 ghost use Rattle.divisions.specs.Award.{givesMore};
 ghost use Rattle.choices.specs.Choice.{endsInOrder};
+ghost use Rattle.choicerecord.specs.Records.{chosen, Sound};
 ghost use Rattle.comparison.specs.Records.{blanksIn};
-ghost use Rattle.meritorder.specs.Records.{chosen, Sound};
+use choicerecord::Choice;
 use comparison::MaybeDivision;
-use meritorder::Choice;
 use money::Blanks;
 
 // The ends of the chosen segments, in book order.

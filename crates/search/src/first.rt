@@ -5,16 +5,16 @@ ghost use Prim.Native.Nat.{_≤_, _<_};
 ghost use Rattle.book.specs.Entries.{bookEntries};
 ghost use Rattle.supply.specs.Supply.{suppliesOf};
 ghost use Rattle.choices.specs.Leaf.{Started};
+ghost use Rattle.choicerecord.specs.Records.{chosen, Sound};
 ghost use Rattle.comparison.specs.Records.{found};
-ghost use Rattle.meritorder.specs.Records.{chosen, Sound};
 ghost use Rattle.charges.specs.Records.{Capped};
 ghost use Rattle.search.specs.ChosenFrom.{ChosenFrom};
 ghost use Rattle.search.specs.Searchable.{Searchable, StartedWith};
 use book::Bid;
 use book::Book;
 use charges::Prices;
+use choicerecord::Choice;
 use comparison::MaybeDivision;
-use meritorder::Choice;
 
 // Prices of a blank to bound the search with, and a division to improve on, if one was found.
 pub struct Beginning {
@@ -49,14 +49,14 @@ fn choice_of(book: Book, numbers: [usize; 8], other: usize, number: usize) -> Ch
     ensures { λ r. ⌜ r .count ≡ book .count ⌝ }
     ensures { λ r. ⌜ ChosenFrom (suppliesOf (bookEntries book .bids)) [] (chosen r) ⌝ }
 {
-    let mut c = crate::no_choice();
+    let mut c = choicerecord::no_choice();
     while c.count < book.count {
         let i = c.count;
         let bid = book.bids[i];
         let wanted = number_for(numbers, i, other, number);
         let j = within(bid, wanted);
         let s = supply::segment_of(bid, j);
-        c = crate::choose(c, s);
+        c = choicerecord::choose(c, s);
     }
     c
 }

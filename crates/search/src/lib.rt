@@ -2,30 +2,26 @@
 // the parts in which nothing better can be found.
 ghost use mathlib.Core.Path.{_≡_};
 ghost use mathlib.Core.Bool.{true, false};
-ghost use mathlib.Core.List.{_∷_};
-ghost use Prim.Native.Nat.{_+_};
 ghost use lib.ListN.{drop};
 ghost use Rattle.book.specs.Entries.{bookEntries};
 ghost use Rattle.supply.specs.Supply.{suppliesOf};
 ghost use Rattle.divisions.specs.Award.{awardOf};
 ghost use Rattle.choices.specs.Search.{leaf, search};
+ghost use Rattle.choicerecord.specs.Records.{chosen, Sound};
 ghost use Rattle.comparison.specs.Records.{found};
-ghost use Rattle.meritorder.specs.Records.{chosen, Sound};
 ghost use Rattle.hopeless.specs.Hopeless.{GivesMore, NothingBetter};
-ghost use Rattle.search.specs.Searchable.{Searchable, Choosable, Testing, Searching};
+ghost use Rattle.search.specs.Searchable.{Searchable, Testing, Searching};
 
 mod behind;
 mod first;
 
 use book::Book;
-use book::Segment;
 use charges::Prices;
 use charges::Sums;
+use choicerecord::Choice;
 use comparison::MaybeDivision;
-use meritorder::Choice;
 use money::Blanks;
 use money::Cents;
-use money::CentsPerBlank;
 
 // A complete choice: its division is compared with the best so far, if it has one.
 fn leaf(demand: Blanks, c: Choice, best: MaybeDivision) -> MaybeDivision
@@ -38,20 +34,6 @@ fn leaf(demand: Blanks, c: Choice, best: MaybeDivision) -> MaybeDivision
     let n = c.count;
     let new = meritorder::fill(c, demand);
     comparison::pick(best, new, n)
-}
-
-// The choice with a segment for the next bidder.
-fn choose(c: Choice, s: Segment) -> Choice
-    requires { ⌜ Choosable c s ⌝ }
-    ensures { λ r. ⌜ r .count ≡ c .count + 1 ⌝ }
-    ensures { λ r. ⌜ chosen r ≡ s ∷ chosen c ⌝ }
-    ensures { λ r. ⌜ Sound r ⌝ }
-{
-    let at = c.count;
-    let mut next = c;
-    next.segments[at] = s;
-    next.count = at + 1;
-    next
 }
 
 // Whether every division of a choice costs as much as the best so far at least, and loses each tie.
@@ -104,7 +86,7 @@ fn search(
         let s = supply::segment_of(bid, j);
         let more = charges::plus(sums, charges::charged(s, demand, prices));
         if !hopeless::hopeless(table, at + 1, demand, n, prices, more, false, so_far) {
-            let next = choose(c, s);
+            let next = choicerecord::choose(c, s);
             if left == 1 {
                 so_far = leaf(demand, next, so_far);
             } else {
@@ -113,22 +95,6 @@ fn search(
         }
     }
     so_far
-}
-
-fn no_choice() -> Choice
-    ensures { λ r. ⌜ r .count ≡ 0 ⌝ }
-    ensures { λ r. ⌜ Sound r ⌝ }
-{
-    let s = Segment {
-        start: Blanks(0),
-        end: Blanks(0),
-        unit: CentsPerBlank(0),
-        fixed: Cents(0),
-    };
-    Choice {
-        count: 0,
-        segments: [s; 8],
-    }
 }
 
 fn no_division() -> MaybeDivision
@@ -149,7 +115,7 @@ pub fn best_division(book: Book) -> MaybeDivision
 {
     if book.count == 0 {
         let demand = book.demand;
-        return leaf(demand, no_choice(), no_division());
+        return leaf(demand, choicerecord::no_choice(), no_division());
     }
     let beginning = first::begin(book);
     let prices = beginning.prices;
@@ -162,5 +128,5 @@ pub fn best_division(book: Book) -> MaybeDivision
         first: 0,
         second: 0,
     };
-    search(book, &table, prices, no_choice(), none, best)
+    search(book, &table, prices, choicerecord::no_choice(), none, best)
 }

@@ -8,8 +8,9 @@ use borrow.Author.Tests.{leb-true, leb-false}
 use Rattle.book.specs.declared.Segment.{Segment}
 use Rattle.supply.specs.Sound.{SoundSegment}
 use Rattle.choices.specs.Choice.{cheaper}
-use Rattle.meritorder.specs.Records.{segmentAt}
-use Rattle.meritorder.proofs.Sums.{sound-at, width-counts, dearer, adds-cheaper, Summed, summed-none, sum-small, summed-next, summed-all}
+use Rattle.choicerecord.specs.Records.{segmentAt}
+use Rattle.choicerecord.proofs.Choosing.{sound-at}
+use Rattle.meritorder.proofs.Sums.{width-counts, dearer, adds-cheaper, Summed, summed-none, sum-small, summed-next, summed-all}
 use Rattle.meritorder.proofs.cheaper.Statement.{statement}
 use Rattle.meritorder.proofs.cheaper.Tie as tie
 

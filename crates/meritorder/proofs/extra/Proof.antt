@@ -2,7 +2,7 @@
 use native.Mathlib.Omega.{arith}
 use borrow.Author.Needs.{needs}
 use Rattle.choices.specs.Choice.{width}
-use Rattle.meritorder.proofs.Sums.{sound-at}
+use Rattle.choicerecord.proofs.Choosing.{sound-at}
 use Rattle.meritorder.proofs.extra.Statement.{statement}
 use Rattle.meritorder.proofs.extra.Tie as tie
 

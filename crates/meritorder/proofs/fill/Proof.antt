@@ -7,7 +7,7 @@ use Rattle.book.specs.declared.Segment.{Segment}
 use Rattle.supply.specs.Sound.{SoundSegment}
 use Rattle.supply.proofs.Sound.{price-fits}
 use Rattle.choices.proofs.Placed.{fits-low}
-use Rattle.meritorder.specs.Records.{segmentAt, firstSegments, chosen}
+use Rattle.choicerecord.specs.Records.{segmentAt, firstSegments, chosen}
 use Rattle.meritorder.proofs.Filling.{Filling, extra-left, filling-none, sound-this, within-end, total-fits, filling-next, filling-all}
 use Rattle.meritorder.proofs.fill.Statement.{statement}
 use Rattle.meritorder.proofs.fill.Tie as tie

@@ -1,6 +1,6 @@
 -- The two sums are those of the chosen segments, and the demand is compared with both.
 use borrow.Author.Needs.{needs}
-use Rattle.meritorder.specs.Records.{chosen}
+use Rattle.choicerecord.specs.Records.{chosen}
 use Rattle.meritorder.proofs.Filling.{too-many, not-too-many}
 use Rattle.meritorder.proofs.fits.Statement.{statement}
 use Rattle.meritorder.proofs.fits.Tie as tie

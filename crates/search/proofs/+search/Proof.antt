@@ -19,26 +19,27 @@ use Rattle.book.specs.Accepted.{AcceptedBid}
 use Rattle.book.proofs.Records.{noBid}
 use Rattle.supply.specs.Supply.{segment0, supplyOf, suppliesOf}
 use Rattle.supply.proofs.Supply.{few-segments}
-use Rattle.choices.specs.Search.{each, leaf}
 use Rattle.supply.specs.Sound.{SoundSegment}
 use Rattle.supply.proofs.Accepted.{sound-segment-at}
+use Rattle.choices.specs.Search.{each, leaf}
+use Rattle.choicerecord.specs.Records.{chosen}
+use Rattle.choicerecord.proofs.Choosing.{length-chosen}
 use Rattle.comparison.specs.declared.MaybeDivision.{MaybeDivision}
 use Rattle.comparison.specs.Records.{found}
-use Rattle.meritorder.specs.Records.{chosen}
 use Rattle.charges.specs.declared.Sums.{Sums}
 use Rattle.charges.specs.Records.{SumsOf, UpTo, sumsOn, sumsWith}
 use Rattle.charges.proofs.Sizes.{one-up-to, up-to-small, sums-next, sums-up-to}
 use Rattle.hopeless.specs.Hopeless.{NothingBetter}
 use Rattle.search.specs.Searchable.{ChoiceOf}
 use Rattle.search.proofs.Steps.{for-all, each-none, each-next, each-all, tried, bidders-done, bidders-next, not-full, accepted-next, choosable}
-use Rattle.search.proofs.Cuts.{length-chosen, small-sums, cut}
+use Rattle.search.proofs.Cuts.{small-sums, cut}
 use Rattle.search.proofs.search.Reads as search′
 use Rattle.search.proofs.search.Kinds as search-kinds
 use Rattle.search.proofs.+search.Lts-search as search-lts
 use Rattle.charges.proofs.charged.Reads as charged-reads
 use Rattle.charges.proofs.plus.Reads as plus-reads
 use Rattle.hopeless.proofs.hopeless.Reads as hopeless-reads
-use Rattle.search.proofs.choose.Reads as choose-reads
+use Rattle.choicerecord.proofs.choose.Reads as choose-reads
 use Rattle.search.proofs.leaf.Reads as leaf-reads
 use Rattle.search.proofs.lost.Reads as lost-reads
 use Rattle.supply.proofs.segment_of.Reads as segment-of-reads

@@ -16,13 +16,14 @@ use Rattle.choices.specs.Search.{leaf, search as searchFrom}
 use Rattle.choices.specs.Leaf.{Started}
 use Rattle.choices.proofs.Kept.{from-started}
 use Rattle.choices.proofs.Finds.{finds}
+use Rattle.choicerecord.specs.declared.Choice.{Choice}
+use Rattle.choicerecord.specs.Records.{chosen}
+use Rattle.choicerecord.proofs.Choosing.{nothing-chosen}
 use Rattle.comparison.specs.Records.{found}
-use Rattle.meritorder.specs.declared.Choice.{Choice}
-use Rattle.meritorder.specs.Records.{chosen}
 use Rattle.charges.specs.Records.{SumsOf, noSums}
 use Rattle.charges.proofs.Sizes.{sums-none}
 use Rattle.completions.proofs.Classes.{graded-zeros}
-use Rattle.search.proofs.Steps.{nothing-chosen, for-all, bidders-done}
+use Rattle.search.proofs.Steps.{for-all, bidders-done}
 use Rattle.search.proofs.best_division.Statement.{statement}
 use Rattle.search.proofs.best_division.Tie as tie
 

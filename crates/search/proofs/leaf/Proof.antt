@@ -2,8 +2,8 @@
 use mathlib.Core.Path.{_∙_}
 use borrow.Author.Needs.{needs}
 use Rattle.lists.proofs.Tests.{passed, failed}
+use Rattle.choicerecord.specs.Records.{chosen}
 use Rattle.comparison.specs.Records.{divisionIn, found}
-use Rattle.meritorder.specs.Records.{chosen}
 use Rattle.search.proofs.Steps.{unfit, fit}
 use Rattle.search.proofs.leaf.Statement.{statement}
 use Rattle.search.proofs.leaf.Tie as tie

@@ -7,9 +7,10 @@ use borrow.Author.Tests.{not-false}
 use lib.ListN.{take}
 use Rattle.divisions.specs.Award.{givesMore}
 use Rattle.choices.specs.Choice.{endsInOrder}
+use Rattle.choicerecord.specs.Records.{chosen}
+use Rattle.choicerecord.proofs.Choosing.{length-chosen}
 use Rattle.comparison.specs.Records.{blanksIn}
-use Rattle.meritorder.specs.Records.{chosen}
-use Rattle.search.proofs.Cuts.{length-chosen, small-sums}
+use Rattle.search.proofs.Cuts.{small-sums}
 use Rattle.search.proofs.lost.Statement.{statement}
 use Rattle.search.proofs.lost.Tie as tie
 

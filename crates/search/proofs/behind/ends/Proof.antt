@@ -6,8 +6,8 @@ use borrow.Author.Needs.{needs}
 use lib.ListN.{length, take, length-set}
 use Rattle.lists.proofs.Latest.{latest-none}
 use Rattle.choices.specs.Choice.{endsInOrder}
+use Rattle.choicerecord.specs.Records.{firstSegments}
 use Rattle.comparison.specs.Records.{blanksIn}
-use Rattle.meritorder.specs.Records.{firstSegments}
 use Rattle.search.proofs.Ends.{ends-next}
 use Rattle.search.proofs.behind.ends.Statement.{statement}
 use Rattle.search.proofs.behind.ends.Tie as tie

@@ -7,8 +7,8 @@ use Rattle.supply.specs.Supply.{suppliesOf}
 use Rattle.choices.specs.Leaf.{Started}
 use Rattle.choices.specs.Search.{leaf}
 use Rattle.choices.proofs.Kept.{started-leaf}
+use Rattle.choicerecord.specs.Records.{chosen}
 use Rattle.comparison.specs.Records.{found}
-use Rattle.meritorder.specs.Records.{chosen}
 use Rattle.search.proofs.Steps.{for-all}
 use Rattle.search.proofs.first.first.Statement.{statement}
 use Rattle.search.proofs.first.first.Tie as tie

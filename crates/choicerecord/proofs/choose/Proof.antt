@@ -3,9 +3,9 @@ use mathlib.Core.Path.{_≡_, refl}
 use borrow.Author.Needs.{needs}
 use lib.ListN.{length}
 use Rattle.lists.proofs.Slices.{length-held}
-use Rattle.search.proofs.Steps.{chosen-more, sound-more}
-use Rattle.search.proofs.choose.Statement.{statement}
-use Rattle.search.proofs.choose.Tie as tie
+use Rattle.choicerecord.proofs.Choosing.{chosen-more, sound-more}
+use Rattle.choicerecord.proofs.choose.Statement.{statement}
+use Rattle.choicerecord.proofs.choose.Tie as tie
 
 returns : tie.Need-returns
 returns c =

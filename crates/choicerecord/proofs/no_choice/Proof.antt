@@ -1,8 +1,8 @@
 -- A choice for no bidder is sound whatever its segments are.
 use mathlib.Core.Path.{refl}
-use Rattle.search.proofs.Steps.{sound-nothing}
-use Rattle.search.proofs.no_choice.Statement.{statement}
-use Rattle.search.proofs.no_choice.Tie as tie
+use Rattle.choicerecord.proofs.Choosing.{sound-nothing}
+use Rattle.choicerecord.proofs.no_choice.Statement.{statement}
+use Rattle.choicerecord.proofs.no_choice.Tie as tie
 
 returns : tie.Need-returns
 returns c = (refl, sound-nothing _)
