@@ -11,11 +11,11 @@ use Rattle.book.specs.declared.Segment.{Segment}
 use Rattle.book.specs.Rules.{priceOn}
 use Rattle.supply.specs.Sound.{priceLimit, SoundSegment}
 use Rattle.supply.proofs.Sound.{price-small}
-use Rattle.choices.specs.Choice.{starts, ends}
+use Rattle.choices.proofs.Sums.{starts-small, ends-small}
 use Rattle.charges.specs.declared.Prices.{Prices}
 use Rattle.charges.specs.declared.Sums.{Sums}
 use Rattle.charges.specs.Charge.{million, highest, mostCharge, chargeAt, charge, charges}
-use Rattle.charges.specs.Records.{Capped, ChargeableAt, SumsOf, UpTo, Small, noSums, sumsOn, sumsWith}
+use Rattle.charges.specs.Records.{Capped, ChargeableAt, SumsOf, UpTo, Small, sumsOn, sumsWith}
 
 module _ (s : Segment) (r l : ℕ) (asked : ChargeableAt s r l) where
   pub price-size : natAbs (priceOn s r) ≤ priceLimit
@@ -49,18 +49,7 @@ charges-small : (demand l : ℕ) (c : List Segment) → All SoundSegment c → l
 charges-small demand l [] sound capped = omega arith
 charges-small demand l (s ∷ c) sound capped = omega (arith, charge-small demand l s (sound .0) capped, charges-small demand l c (sound .1) capped)
 
-starts-small : (c : List Segment) → All SoundSegment c → starts c ≤ million * length c
-starts-small [] sound = omega arith
-starts-small (s ∷ c) sound = omega (arith, sound .0 .order, sound .0 .end-high, starts-small c (sound .1))
-
-ends-small : (c : List Segment) → All SoundSegment c → ends c ≤ million * length c
-ends-small [] sound = omega arith
-ends-small (s ∷ c) sound = omega (arith, sound .0 .end-high, ends-small c (sound .1))
-
 module _ (demand : ℕ) (prices : Prices) where
-  pub sums-none : SumsOf demand prices [] noSums
-  sums-none = record { low = refl; high = refl; first = refl; second = refl }
-
   pub sums-next : (s : Segment) (c : List Segment) (x : Sums) → SumsOf demand prices c x
       → SumsOf demand prices (s ∷ c) (sumsWith x (sumsOn demand prices s))
   sums-next s c x h = record { low = omega arith; high = omega arith; first = omega arith; second = omega arith }

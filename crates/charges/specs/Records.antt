@@ -6,6 +6,7 @@ use Rattle.book.specs.declared.Segment.{Segment}
 use Rattle.supply.specs.Sound.{SoundSegment}
 use Rattle.choices.specs.Choice.{starts, ends}
 use Rattle.charges.specs.declared.Prices.{Prices}
+use Rattle.charges.specs.declared.Charges.{Charges}
 use Rattle.charges.specs.declared.Sums.{Sums}
 use Rattle.charges.specs.Charge.{million, highest, mostCharge, charge, charges}
 
@@ -44,9 +45,9 @@ sumsOn demand prices s = record {
   second = charge demand (prices .second .0) s;
 }
 
--- the sums of nobody
-abbrev pub noSums : Sums
-noSums = record { low = record { 0 = 0 }; high = record { 0 = 0 }; first = 0; second = 0 }
+-- the charges among some sums
+abbrev pub chargesIn : Sums → Charges
+chargesIn x = record { first = x .first; second = x .second }
 
 -- two sums together
 abbrev pub sumsWith : Sums → Sums → Sums
@@ -68,6 +69,11 @@ pub record Small (x : Sums) : Type 0 where
 pub record Addable (x y : Sums) : Type 0 where
   pub left : Small x
   pub right : Small y
+
+-- the charges of a choice
+pub record ChargesOf (demand : ℕ) (prices : Prices) (c : List Segment) (x : Charges) : Type 0 where
+  pub first : x .first ≡ charges demand (prices .first .0) c
+  pub second : x .second ≡ charges demand (prices .second .0) c
 
 -- the sums of a choice
 pub record SumsOf (demand : ℕ) (prices : Prices) (c : List Segment) (x : Sums) : Type 0 where

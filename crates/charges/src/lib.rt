@@ -3,7 +3,7 @@
 ghost use mathlib.Core.Path.{_≡_};
 ghost use Prim.Native.Nat.{_*_, min};
 ghost use Rattle.charges.specs.Charge.{chargeAt, charge};
-ghost use Rattle.charges.specs.Records.{Payable, ChargeableAt, Chargeable, ChargeableBy, Addable, sumsOn, sumsWith};
+ghost use Rattle.charges.specs.Records.{Payable, ChargeableAt, Chargeable, ChargeableBy, Addable, chargesIn, sumsOn, sumsWith};
 use book::Segment;
 use money::Blanks;
 use money::Cents;
@@ -13,6 +13,12 @@ use money::CentsPerBlank;
 pub struct Prices {
     pub first: CentsPerBlank,
     pub second: CentsPerBlank,
+}
+
+// What the segments of some bidders are charged in all, by the first price and by the second.
+pub struct Charges {
+    pub first: u64,
+    pub second: u64,
 }
 
 // Over some bidders: the sums of the starts and of the ends of their segments, and of what these are charged by the two prices.
@@ -82,6 +88,16 @@ pub fn charged(s: Segment, demand: Blanks, prices: Prices) -> Sums
         high,
         first,
         second,
+    }
+}
+
+// The charges among some sums. It is pub for the search.
+pub fn charges_in(x: Sums) -> Charges
+    ensures { λ r. ⌜ r ≡ chargesIn x ⌝ }
+{
+    Charges {
+        first: x.first,
+        second: x.second,
     }
 }
 

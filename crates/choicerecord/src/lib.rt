@@ -1,22 +1,28 @@
-// A choice of a segment for each bidder, as a record.
+// A choice of a segment for each bidder, as a record. The sums of the starts and of the ends are carried along as a segment is chosen or
+// dropped, and nothing adds them up afresh.
 ghost use mathlib.Core.Path.{_≡_};
 ghost use mathlib.Core.List.{_∷_};
-ghost use Prim.Native.Nat.{_+_};
-ghost use Rattle.choicerecord.specs.Records.{chosen, Sound, Choosable};
+ghost use Prim.Native.Nat.{_+_, _≤_};
+ghost use Rattle.choicerecord.specs.Records.{chosen, Sound, SellsNothing, Choosable, Exchangeable, Exchanged};
 use book::Segment;
 use money::Blanks;
 use money::Cents;
 use money::CentsPerBlank;
 
-// A segment chosen for each of the first `count` bidders, in book order; the others are ignored.
+// A segment chosen for each of the first `count` bidders, in book order, and the sums of their starts and of their ends; the other
+// segments are ignored.
 pub struct Choice {
     pub count: usize,
     pub segments: [Segment; 8],
+    pub starts: Blanks,
+    pub ends: Blanks,
 }
 
-// A choice for nobody. It is pub, as `choose` is, for the search.
-pub fn no_choice() -> Choice
-    ensures { λ r. ⌜ r .count ≡ 0 ⌝ }
+// Segment 0 for each of n bidders. It is pub, as `choose` and `exchange` are, for the search.
+pub fn nothing_sold(n: usize) -> Choice
+    requires { ⌜ n ≤ 8 ⌝ }
+    ensures { λ r. ⌜ r .count ≡ n ⌝ }
+    ensures { λ r. ⌜ SellsNothing r ⌝ }
     ensures { λ r. ⌜ Sound r ⌝ }
 {
     let s = Segment {
@@ -26,8 +32,10 @@ pub fn no_choice() -> Choice
         fixed: Cents(0),
     };
     Choice {
-        count: 0,
+        count: n,
         segments: [s; 8],
+        starts: Blanks(0),
+        ends: Blanks(0),
     }
 }
 
@@ -39,8 +47,31 @@ pub fn choose(c: Choice, s: Segment) -> Choice
     ensures { λ r. ⌜ Sound r ⌝ }
 {
     let at = c.count;
-    let mut next = c;
-    next.segments[at] = s;
-    next.count = at + 1;
-    next
+    let mut segments = c.segments;
+    segments[at] = s;
+    Choice {
+        count: at + 1,
+        segments,
+        starts: Blanks(c.starts.0 + s.start.0),
+        ends: Blanks(c.ends.0 + s.end.0),
+    }
+}
+
+// The choice with another segment for bidder i: the one that it had is dropped, and its start and its end are taken back from the sums.
+pub fn exchange(c: Choice, i: usize, s: Segment) -> Choice
+    requires { ⌜ Exchangeable c i s ⌝ }
+    ensures { λ r. ⌜ r .count ≡ c .count ⌝ }
+    ensures { λ r. ⌜ Exchanged c i s r ⌝ }
+    ensures { λ r. ⌜ Sound r ⌝ }
+{
+    let count = c.count;
+    let dropped = c.segments[i];
+    let mut segments = c.segments;
+    segments[i] = s;
+    Choice {
+        count,
+        segments,
+        starts: Blanks(c.starts.0 - dropped.start.0 + s.start.0),
+        ends: Blanks(c.ends.0 - dropped.end.0 + s.end.0),
+    }
 }

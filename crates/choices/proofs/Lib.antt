@@ -2,6 +2,7 @@ pub mod Fill
 pub mod Certificate
 pub mod Optimal
 pub mod Placed
+pub mod Sums
 pub mod Behind
 pub mod Leaves
 pub mod Chosen

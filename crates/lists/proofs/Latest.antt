@@ -26,7 +26,7 @@ module _ {A : Type 0} (d : A) where
   length-latest xs (suc n) = ap suc (length-latest xs n)
 
   -- a store at n or past it changes none of the first n
-  latest-kept : (xs : List A) (i : ℕ) (x : A) (n : ℕ) → n ≤ i → latest d (set xs i x) n ≡ latest d xs n
+  pub latest-kept : (xs : List A) (i : ℕ) (x : A) (n : ℕ) → n ≤ i → latest d (set xs i x) n ≡ latest d xs n
   unfolding latest
   latest-kept xs i x zero h = refl
   latest-kept xs i x (suc n) h = rw (getD-set-other xs i n x d (λ e. omega arith), latest-kept xs i x n (omega arith))
@@ -35,7 +35,13 @@ module _ {A : Type 0} (d : A) where
   pub latest-set : (xs : List A) (n : ℕ) (x : A) → n < length xs → latest d (set xs n x) (n + 1) ≡ x ∷ latest d xs n
   latest-set xs n x h = rw add-one (latest-next (set xs n x) n ∙ rw (getD-set-same xs n x d h, latest-kept xs n x n (le-refl n)))
 
-  -- what holds of all of them holds of each
+  -- what holds of each of them holds of all
+  pub latest-all : (P : A → Type 0) (xs : List A) (n : ℕ) → ((i : ℕ) → i < n → P (getD xs i d)) → All P (latest d xs n)
+  unfolding latest
+  latest-all P xs zero each = tt
+  latest-all P xs (suc n) each = (each n (le-refl (suc n)), latest-all P xs n (λ i h. each i (omega arith)))
+
+  -- and conversely
   pub latest-at : (P : A → Type 0) (xs : List A) (n i : ℕ) → All P (latest d xs n) → i < n → P (getD xs i d)
   unfolding latest
   latest-at P xs zero i all h = absurd (omega arith)

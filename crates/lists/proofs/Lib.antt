@@ -6,5 +6,6 @@ pub mod Joined
 pub mod Padded
 pub mod Filled
 pub mod Latest
+pub mod Sums
 pub mod Members
 pub mod Removed

@@ -22,21 +22,21 @@ use Rattle.supply.specs.Supply.{segment0}
 use Rattle.supply.specs.Sound.{mostBlanks, priceLimit, SoundSegment}
 use Rattle.supply.proofs.Sound.{price-small}
 use Rattle.divisions.specs.Award.{Priced}
-use Rattle.choices.specs.Choice.{starts, ends, fits, width, extra, extras, placed, costWith, filled}
+use Rattle.choices.specs.Choice.{starts, fits, width, extra, extras, placed, costWith, filled}
 use Rattle.choicerecord.specs.declared.Choice.{Choice}
-use Rattle.choicerecord.specs.Records.{segmentAt, firstSegments, chosen, Sound}
+use Rattle.choicerecord.specs.Records.{segmentAt, firstSegments, chosen, Carried, Sound}
 use Rattle.choicerecord.proofs.Choosing.{sound-at}
 use Rattle.comparison.specs.Records.{blanksIn}
 
--- whether a choice fits, from the two sums
-module _ (demand : ℕ) (c : List Segment) (low : ℕ) (starts-are : low ≡ starts c) where
-  pub too-many : demand < low → false ≡ fits demand c
+-- whether a choice fits, from the carried sums
+module _ (demand : ℕ) (c : Choice) (carried : Carried c) where
+  pub too-many : demand < c .starts .0 → false ≡ fits demand (chosen c)
   unfolding fits
-  too-many h = rw (lt-leb (starts c) demand (omega arith))
+  too-many h = rw (lt-leb (starts (chosen c)) demand (omega (arith, carried .starts)))
 
-  pub not-too-many : (high : ℕ) → high ≡ ends c → low ≤ demand → leb demand high ≡ fits demand c
+  pub not-too-many : c .starts .0 ≤ demand → leb demand (c .ends .0) ≡ fits demand (chosen c)
   unfolding fits
-  not-too-many high e h = rw (le-leb (starts c) demand (omega arith), e)
+  not-too-many h = rw (le-leb (starts (chosen c)) demand (omega (arith, carried .starts)), carried .ends)
 
 -- an extra is no more than what is left, and with the start no more than the end
 pub extra-left : (left : ℕ) (s : Segment) (c : List Segment) → extra left s c ≤ left

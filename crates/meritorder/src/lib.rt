@@ -3,7 +3,7 @@ ghost use mathlib.Core.Path.{_≡_};
 ghost use mathlib.Core.Bool.{true};
 ghost use Prim.Native.Nat.{_+_};
 ghost use lib.Dec.{leb};
-ghost use Rattle.choices.specs.Choice.{starts, ends, fits, cheaper, extra, filled};
+ghost use Rattle.choices.specs.Choice.{fits, cheaper, extra, filled};
 ghost use Rattle.choicerecord.specs.Records.{segmentAt, firstSegments, chosen, Sound};
 ghost use Rattle.comparison.specs.Records.{divisionIn};
 ghost use Rattle.meritorder.specs.Asked.{HasFirst, Fillable};
@@ -14,46 +14,15 @@ use money::Blanks;
 use money::Cents;
 use money::CentsPerBlank;
 
-// The starts of the chosen segments, added up afresh where a choice is tested. A sum is a plain number
-// while it is added up.
-fn starts(c: Choice) -> Blanks
-    requires { ⌜ Sound c ⌝ }
-    ensures { λ r. ⌜ r .0 ≡ starts (chosen c) ⌝ }
-{
-    let mut sum: u64 = 0;
-    let mut i: usize = 0;
-    while i < c.count {
-        let s = c.segments[i];
-        sum += s.start.0;
-        i += 1;
-    }
-    Blanks(sum)
-}
-
-// Their ends, likewise.
-fn ends(c: Choice) -> Blanks
-    requires { ⌜ Sound c ⌝ }
-    ensures { λ r. ⌜ r .0 ≡ ends (chosen c) ⌝ }
-{
-    let mut sum: u64 = 0;
-    let mut i: usize = 0;
-    while i < c.count {
-        let s = c.segments[i];
-        sum += s.end.0;
-        i += 1;
-    }
-    Blanks(sum)
-}
-
-// The starts add up to at most the demand, and the ends to at least it; prices do not matter.
+// The starts add up to at most the demand, and the ends to at least it, by the sums that the choice carries; prices do not matter.
 pub fn fits(c: Choice, demand: Blanks) -> bool
     requires { ⌜ Sound c ⌝ }
     ensures { λ r. ⌜ r ≡ fits (demand .0) (chosen c) ⌝ }
 {
-    if demand.0 < starts(c).0 {
+    if demand.0 < c.starts.0 {
         return false;
     }
-    demand.0 <= ends(c).0
+    demand.0 <= c.ends.0
 }
 
 // Whether a further blank costs no more on s than `unit`. Its unit price decides, and not what its
@@ -65,7 +34,7 @@ fn no_dearer(s: Segment, unit: CentsPerBlank) -> bool
 }
 
 // What the first n of the chosen segments can take over their starts, of those that are no dearer
-// than `unit`.
+// than `unit`. A sum is a plain number while it is added up.
 fn cheaper(c: Choice, n: usize, unit: CentsPerBlank) -> Blanks
     requires { ⌜ HasFirst c n ⌝ }
     ensures { λ r. ⌜ r .0 ≡ cheaper (unit .0) (firstSegments c n) ⌝ }
@@ -109,7 +78,7 @@ pub fn fill(c: Choice, demand: Blanks) -> MaybeDivision
     ensures { λ r. ⌜ r .found ≡ true ⌝ }
     ensures { λ r. ⌜ divisionIn (c .count) r ≡ filled (demand .0) (chosen c) ⌝ }
 {
-    let mut left = Blanks(demand.0 - starts(c).0);
+    let mut left = Blanks(demand.0 - c.starts.0);
     let mut quantities = [Blanks(0); 8];
     let mut cost = Cents(0);
     let mut i = c.count;

@@ -1,29 +1,69 @@
--- A choice made for one bidder after the other. Assumes nothing.
-use Prim.Native.Nat.{ℕ, _+_, _<_}
-use mathlib.Core.List.{List, _∷_, List·Memᴰ as In}
-use mathlib.Core.Path.{_≡_}
-use lib.ListN.{length, getD, drop}
-use Rattle.lists.proofs.Members.{in-at}
+-- A complete choice of a book's segments, with one after the other exchanged. Assumes nothing.
+use Prim.Native.Nat.{ℕ, zero, suc, _≤_, _<_}
+use native.Mathlib.Decide.{ℕ-discrete}
+use native.Mathlib.Omega.{arith}
+use mathlib.Core.List.{List, [], _∷_, List·Memᴰ as In, List·Memᴰ·head as here}
+use mathlib.Core.Path.{_≡_, refl}
+use lib.ListN.{length, getD, drop, drop-of-length-le}
+use lib.Seq.{drop-cons}
+use Rattle.lists.proofs.Latest.{latest-none, latest-next}
 use Rattle.book.specs.declared.Segment.{Segment}
-use Rattle.supply.specs.Supply.{segment0}
+use Rattle.book.specs.declared.Book.{Book}
+use Rattle.book.specs.Entries.{BidEntries, bidEntries, bookEntries}
+use Rattle.book.proofs.Records.{noBid}
+use Rattle.book.proofs.Accepted.{accepted-at}
+use Rattle.supply.specs.Supply.{segment0, supplyOf, suppliesOf}
+use Rattle.supply.proofs.Supplies.{length-supplies, supply-of}
+use Rattle.divisions.specs.Award.{Priced}
+use Rattle.choices.specs.Leaf.{Leaf}
 use Rattle.choicerecord.specs.declared.Choice.{Choice}
-use Rattle.choicerecord.specs.Records.{chosen}
-use Rattle.choicerecord.proofs.Choosing.{nothing-chosen}
-use Rattle.search.specs.ChosenFrom.{ChosenFrom}
+use Rattle.choicerecord.specs.Records.{segmentAt, firstSegments, chosen, Sound, SellsNothing, Exchanged}
+use Rattle.search.specs.ChosenFrom.{ChosenFrom, HasBidder, ExchangedFrom}
+use Rattle.search.specs.Searchable.{Searchable}
 
--- the choice has a segment of each of the first bidders
-module _ (supplies : List (List Segment)) (c : Choice) where
-  abbrev pub FromFirst : Type 0
-  FromFirst = ChosenFrom supplies (drop (c .count) supplies) (chosen c)
+nothing-offered : (b : BidEntries) → In segment0 (supplyOf b)
+unfolding supplyOf
+nothing-offered b = here refl
 
-  pub from-none : c .count ≡ 0 → FromFirst
-  from-none e = rw (nothing-chosen c e, e) (record { leaf = λ demand d l. l })
+-- one segment in the place of another
+pub exchanged-from : {c r : Choice} {i : ℕ} {s : Segment} → r .count ≡ c .count → Exchanged c i s r → Sound r → (supply : List Segment) → In s supply
+    → ExchangedFrom supply c i r
+exchanged-from count x sound supply h = record { sound = sound; count = count; here = rw (x .here) h; others = x .others }
 
--- so has the choice with a segment of the next bidder
-module _ (supplies : List (List Segment)) (c next : Choice) (ss : List Segment) (s : Segment) where
-  pub from-next : FromFirst supplies c → drop (c .count) supplies ≡ ss ∷ drop (c .count + 1) supplies → (j : ℕ) → j < length ss
-      → s ≡ getD ss j segment0 → next .count ≡ c .count + 1 → chosen next ≡ s ∷ chosen c → FromFirst supplies next
-  from-next p left j h e count more =
-      let q : ChosenFrom supplies (ss ∷ drop (c .count + 1) supplies) (chosen c) = rw left at p in
-      let there : In s ss = rw e (in-at segment0 ss j h) in
-      rw (more, count) (record { leaf = λ demand d l. q .leaf demand d (s, there, l) })
+-- A book's bids: segment 0 of each, and then another segment of one.
+module _ (book : Book) (searchable : Searchable (bookEntries book)) (held : book .count ≤ length (book .bids)) where
+  abbrev supplies : List (List Segment)
+  supplies = suppliesOf (bookEntries book .bids)
+
+  pub from-nothing : (c : Choice) → c .count ≡ book .count → SellsNothing c → Sound c → ChosenFrom supplies c
+  from-nothing c e nothing sound = record {
+    sound = sound;
+    all = rw (length-supplies (book .bids) (book .count) held) e;
+    each = λ i h. rw (nothing .each i h, supply-of (book .bids) (book .count) held i (omega (arith, e))) (nothing-offered _);
+  }
+
+  module _ {c : Choice} (p : ChosenFrom supplies c) (i : ℕ) (further : i < book .count) where
+    pub has-bidder : (k : ℕ) → k < book .count → HasBidder c i (getD (book .bids) k noBid)
+    has-bidder k h = record {
+      sound = p .sound;
+      bidder = omega (arith, p .all, length-supplies (book .bids) (book .count) held);
+      accepted = accepted-at (book .bids) (book .count) held (searchable .bids) k h;
+    }
+
+    pub from-exchanged : (r : Choice) → ExchangedFrom (supplyOf (bidEntries (getD (book .bids) i noBid))) c i r → ChosenFrom supplies r
+    from-exchanged r x = record { sound = x .sound; all = rw (x .count) (p .all); each = λ k h. go k h (ℕ-discrete k i) }
+      where
+        go : (k : ℕ) → k < r .count → Dec (k ≡ i) → In (segmentAt r k) (getD supplies k [])
+        go k h (yes e) = rw (e, supply-of (book .bids) (book .count) held i further) (x .here)
+        go k h (no e) = rw (x .others k e) (p .each k (omega (arith, x .count)))
+
+-- What a complete choice gives, the search comes to.
+module _ {supplies : List (List Segment)} {c : Choice} (p : ChosenFrom supplies c) (demand : ℕ) (d : Priced) where
+  reached : (at : ℕ) → at ≤ length supplies → Leaf demand (drop at supplies) (firstSegments c at) d → Leaf demand supplies [] d
+  reached zero h l = rw latest-none at l
+  reached (suc k) h l =
+      let next : Leaf demand (drop (suc k) supplies) (segmentAt c k ∷ firstSegments c k) d = rw latest-next at l in
+      reached k (omega arith) (rw (drop-cons supplies k [] h) (segmentAt c k, p .each k (omega (arith, p .all)), next))
+
+  pub complete-leaf : Leaf demand [] (chosen c) d → Leaf demand supplies [] d
+  complete-leaf l = let done : drop (c .count) supplies ≡ [] = drop-of-length-le supplies {i = c .count} (omega (arith, p .all)) in reached (c .count) (omega (arith, p .all)) (rw done l)

@@ -21,12 +21,22 @@ use Rattle.choicerecord.proofs.Choosing.{length-chosen}
 use Rattle.comparison.specs.declared.MaybeDivision.{MaybeDivision}
 use Rattle.comparison.specs.Records.{found}
 use Rattle.charges.specs.declared.Prices.{Prices}
+use Rattle.charges.specs.declared.Charges.{Charges}
 use Rattle.charges.specs.declared.Sums.{Sums}
-use Rattle.charges.specs.Records.{Capped, SumsOf, UpTo}
+use Rattle.charges.specs.Records.{chargesIn, Capped, ChargesOf, SumsOf, UpTo}
 use Rattle.charges.proofs.Sizes.{sums-up-to}
 use Rattle.completions.specs.Classes.{Covers, Surveyed}
 use Rattle.hopeless.specs.Hopeless.{GivesMore, NothingBetter}
-use Rattle.search.specs.Searchable.{Searchable}
+use Rattle.search.specs.Searchable.{Searchable, sumsOf}
+
+-- by what a choice carries and its charges it is judged as by sums added up afresh
+pub sums-carried : (demand : ℕ) (prices : Prices) (c : Choice) (charged : Charges) → Sound c → ChargesOf demand prices (chosen c) charged
+    → SumsOf demand prices (chosen c) (sumsOf c charged)
+sums-carried demand prices c charged sound h =
+    record { low = sound .carried .starts; high = sound .carried .ends; first = h .first; second = h .second }
+
+pub charges-among : {demand : ℕ} {prices : Prices} {c : List Segment} {sums : Sums} → SumsOf demand prices c sums → ChargesOf demand prices c (chargesIn sums)
+charges-among h = record { first = h .first; second = h .second }
 
 -- the sums of a choice are no larger than those of eight bidders
 pub small-sums : (demand : ℕ) (prices : Prices) (c : Choice) (sums : Sums) → Sound c → Capped prices → SumsOf demand prices (chosen c) sums → UpTo 8 sums

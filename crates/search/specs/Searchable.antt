@@ -2,20 +2,19 @@
 use Prim.Native.Nat.{ℕ, _≤_, _<_}
 use mathlib.Core.List.{List}
 use Rattle.lists.specs.All.{All}
-use Rattle.book.specs.declared.Segment.{Segment}
 use Rattle.book.specs.declared.Book.{Book}
 use Rattle.book.specs.Entries.{BookEntries, bookEntries}
 use Rattle.book.specs.Accepted.{AcceptedBid}
 use Rattle.supply.specs.Supply.{suppliesOf}
-use Rattle.supply.specs.Sound.{SoundSegment}
 use Rattle.choices.specs.Leaf.{Started}
 use Rattle.choicerecord.specs.declared.Choice.{Choice}
 use Rattle.choicerecord.specs.Records.{chosen, Sound}
 use Rattle.comparison.specs.declared.MaybeDivision.{MaybeDivision}
 use Rattle.comparison.specs.Records.{found}
 use Rattle.charges.specs.declared.Prices.{Prices}
+use Rattle.charges.specs.declared.Charges.{Charges}
 use Rattle.charges.specs.declared.Sums.{Sums}
-use Rattle.charges.specs.Records.{Capped, SumsOf}
+use Rattle.charges.specs.Records.{Capped, ChargesOf, SumsOf}
 use Rattle.completions.specs.Classes.{Graded, Surveyed}
 
 -- what the search asks of a book: accepted books have it, and so have the books less a bid
@@ -43,10 +42,14 @@ pub record Testing (demand n : ℕ) (prices : Prices) (table : List ℕ) (c : Ch
   pub graded : Graded table
   pub sums-of : SumsOf demand prices (chosen c) sums
 
--- what `search` asks: a book, a choice for the first of its bidders but not for all, with its sums, and the classes of the others
-pub record Searching (book : Book) (prices : Prices) (table : List ℕ) (c : Choice) (sums : Sums) : Type 0 where
+-- what a choice is judged by: the sums that it carries, and its charges
+abbrev pub sumsOf : Choice → Charges → Sums
+sumsOf c charged = record { low = c .starts; high = c .ends; first = charged .first; second = charged .second }
+
+-- what `search` asks: a book, a choice for the first of its bidders but not for all, with its charges, and the classes of the others
+pub record Searching (book : Book) (prices : Prices) (table : List ℕ) (c : Choice) (charged : Charges) : Type 0 where
   pub choice-of : ChoiceOf book c
   pub further : c .count < book .count
   pub capped : Capped prices
   pub surveyed : Surveyed book prices table
-  pub sums-of : SumsOf (book .demand .0) prices (chosen c) sums
+  pub charges-of : ChargesOf (book .demand .0) prices (chosen c) charged

@@ -1,14 +1,11 @@
 // A division to start the search from. The numbers that it is made with are a hint: any numbers serve.
-ghost use mathlib.Core.Path.{_≡_};
-ghost use mathlib.Core.List.{[]};
-ghost use Prim.Native.Nat.{_≤_, _<_};
-ghost use Rattle.book.specs.Entries.{bookEntries};
-ghost use Rattle.supply.specs.Supply.{suppliesOf};
+ghost use Prim.Native.Nat.{_≤_};
+ghost use Rattle.book.specs.Entries.{bidEntries, bookEntries};
+ghost use Rattle.supply.specs.Supply.{supplyOf, suppliesOf};
 ghost use Rattle.choices.specs.Leaf.{Started};
-ghost use Rattle.choicerecord.specs.Records.{chosen, Sound};
 ghost use Rattle.comparison.specs.Records.{found};
 ghost use Rattle.charges.specs.Records.{Capped};
-ghost use Rattle.search.specs.ChosenFrom.{ChosenFrom};
+ghost use Rattle.search.specs.ChosenFrom.{ChosenFrom, HasBidder, ExchangedFrom};
 ghost use Rattle.search.specs.Searchable.{Searchable, StartedWith};
 use book::Bid;
 use book::Book;
@@ -32,47 +29,48 @@ fn within(bid: Bid, number: usize) -> usize
     number
 }
 
-// The number for bidder i: another for one of them.
-fn number_for(numbers: [usize; 8], i: usize, other: usize, number: usize) -> usize
-    requires { ⌜ i < 8 ⌝ }
+// The choice with another segment for bidder i: the one with this number in the bid, or the bid's last.
+fn with_number(c: Choice, i: usize, bid: Bid, number: usize) -> Choice
+    requires { ⌜ HasBidder c i bid ⌝ }
+    ensures { λ r. ⌜ ExchangedFrom (supplyOf (bidEntries bid)) c i r ⌝ }
 {
-    if i == other {
-        return number;
-    }
-    numbers[i]
+    let j = within(bid, number);
+    let s = supply::segment_of(bid, j);
+    choicerecord::exchange(c, i, s)
 }
 
-// The choice of the segments with these numbers, but for one bidder's.
-fn choice_of(book: Book, numbers: [usize; 8], other: usize, number: usize) -> Choice
+// The choice of the segments with these numbers.
+fn choice_of(book: Book, numbers: [usize; 8]) -> Choice
     requires { ⌜ Searchable (bookEntries book) ⌝ }
-    ensures { λ r. ⌜ Sound r ⌝ }
-    ensures { λ r. ⌜ r .count ≡ book .count ⌝ }
-    ensures { λ r. ⌜ ChosenFrom (suppliesOf (bookEntries book .bids)) [] (chosen r) ⌝ }
+    ensures { λ r. ⌜ ChosenFrom (suppliesOf (bookEntries book .bids)) r ⌝ }
 {
-    let mut c = choicerecord::no_choice();
-    while c.count < book.count {
-        let i = c.count;
+    let n = book.count;
+    let mut c = choicerecord::nothing_sold(n);
+    let mut i: usize = 0;
+    while i < n {
         let bid = book.bids[i];
-        let wanted = number_for(numbers, i, other, number);
-        let j = within(bid, wanted);
-        let s = supply::segment_of(bid, j);
-        c = choicerecord::choose(c, s);
+        let number = numbers[i];
+        c = with_number(c, i, bid, number);
+        i += 1;
     }
     c
 }
 
-// The best of a division, if there is one, and of some choices, each next to that of the favoured
-// segments.
+// The best of a division, if there is one, and of the choices that differ in one bidder's segment from
+// the choice of the favoured segments.
 fn first(book: Book, numbers: [usize; 8], best: MaybeDivision) -> MaybeDivision
     requires { ⌜ StartedWith book best ⌝ }
     ensures { λ r. ⌜ Started (book .demand .0) (suppliesOf (bookEntries book .bids)) (found (book .count) r) ⌝ }
 {
     let demand = book.demand;
+    let c = choice_of(book, numbers);
     let mut so_far = best;
     let mut k: usize = 0;
     while k < 7 * book.count {
-        let c = choice_of(book, numbers, k / 7, k % 7);
-        so_far = crate::leaf(demand, c, so_far);
+        let at = k / 7;
+        let bid = book.bids[at];
+        let other = with_number(c, at, bid, k % 7);
+        so_far = crate::leaf(demand, other, so_far);
         k += 1;
     }
     so_far

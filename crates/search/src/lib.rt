@@ -10,12 +10,13 @@ ghost use Rattle.choices.specs.Search.{leaf, search};
 ghost use Rattle.choicerecord.specs.Records.{chosen, Sound};
 ghost use Rattle.comparison.specs.Records.{found};
 ghost use Rattle.hopeless.specs.Hopeless.{GivesMore, NothingBetter};
-ghost use Rattle.search.specs.Searchable.{Searchable, Testing, Searching};
+ghost use Rattle.search.specs.Searchable.{Searchable, Testing, sumsOf, Searching};
 
 mod behind;
 mod first;
 
 use book::Book;
+use charges::Charges;
 use charges::Prices;
 use charges::Sums;
 use choicerecord::Choice;
@@ -57,6 +58,20 @@ fn lost(
     hopeless::hopeless(table, at, demand, n, prices, sums, true, best)
 }
 
+// What a part of the search is judged by: the sums that its choice carries, and what the choice is charged.
+fn sums_of(c: Choice, charged: Charges) -> Sums
+    ensures { λ r. ⌜ r ≡ sumsOf c charged ⌝ }
+{
+    let low = c.starts;
+    let high = c.ends;
+    Sums {
+        low,
+        high,
+        first: charged.first,
+        second: charged.second,
+    }
+}
+
 // A segment is chosen for the next bidder, each in turn from its last to segment 0, and the search
 // calls itself for the bidders after it, unless nothing better can be found there; with a segment of
 // the last the choice is complete. It returns the best division so far.
@@ -65,14 +80,15 @@ fn search(
     table: &[u64; 1152],
     prices: Prices,
     c: Choice,
-    sums: Sums,
+    charged: Charges,
     best: MaybeDivision,
 ) -> MaybeDivision
-    requires { ⌜ Searching book prices (now table) c sums ⌝ }
+    requires { ⌜ Searching book prices (now table) c charged ⌝ }
     ensures { λ r. ⌜ found (book .count) r ≡ search (book .demand .0) (drop (c .count) (suppliesOf (bookEntries book .bids))) (chosen c) (found (book .count) best) ⌝ }
 {
     let demand = book.demand;
     let n = book.count;
+    let sums = sums_of(c, charged);
     if lost(table, demand, n, prices, c, sums, best) {
         return best;
     }
@@ -90,7 +106,7 @@ fn search(
             if left == 1 {
                 so_far = leaf(demand, next, so_far);
             } else {
-                so_far = search(book, table, prices, next, more, so_far);
+                so_far = search(book, table, prices, next, charges::charges_in(more), so_far);
             }
         }
     }
@@ -115,18 +131,23 @@ pub fn best_division(book: Book) -> MaybeDivision
 {
     if book.count == 0 {
         let demand = book.demand;
-        return leaf(demand, choicerecord::no_choice(), no_division());
+        return leaf(demand, choicerecord::nothing_sold(0), no_division());
     }
     let beginning = first::begin(book);
     let prices = beginning.prices;
     let best = beginning.best;
     let mut table = [0u64; 1152];
     completions::survey(&mut table, book, prices);
-    let none = Sums {
-        low: Blanks(0),
-        high: Blanks(0),
+    let none = Charges {
         first: 0,
         second: 0,
     };
-    search(book, &table, prices, choicerecord::no_choice(), none, best)
+    search(
+        book,
+        &table,
+        prices,
+        choicerecord::nothing_sold(0),
+        none,
+        best,
+    )
 }

@@ -77,7 +77,7 @@ segments-sound before (s ∷ ss) rises limits starts =
     } in
     (this, segments-sound (s .end .0) ss (t .rest) (limits .1) (starts .1))
 
-nothing-sound : SoundSegment segment0
+pub nothing-sound : SoundSegment segment0
 unfolding priceOf
 nothing-sound = record { order = omega arith; end-high = omega arith; unit-high = omega arith; fixed-size = omega arith; not-negative = refl }
 

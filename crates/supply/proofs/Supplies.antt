@@ -2,7 +2,7 @@
 use Prim.Native.Nat.{ℕ, _+_, _≤_, _<_}
 use native.Mathlib.Omega.{arith}
 use mathlib.Core.List.{List, [], _∷_, map}
-use mathlib.Core.Path.{_≡_, ap, _∙_}
+use mathlib.Core.Path.{_≡_, ap, sym, _∙_}
 use lib.ListN.{length, getD, take, drop, length-map, List·getD-map, drop-of-length-le}
 use Rattle.lists.proofs.Slices.{drop-next}
 use Rattle.book.specs.declared.Segment.{Segment}
@@ -16,7 +16,7 @@ module _ (bids : List Bid) (n : ℕ) (held : n ≤ length bids) where
   abbrev entries : List BidEntries
   entries = map bidEntries (take n bids)
 
-  length-supplies : length (suppliesOf entries) ≡ n
+  pub length-supplies : length (suppliesOf entries) ≡ n
   length-supplies = length-map entries supplyOf ∙ length-entries bids n held
 
   supply-at : (i : ℕ) → i < n → getD (suppliesOf entries) i (supplyOf (bidEntries noBid)) ≡ supplyOf (bidEntries (getD bids i noBid))
@@ -28,6 +28,11 @@ module _ (bids : List Bid) (n : ℕ) (held : n ≤ length bids) where
       let within : i < length (suppliesOf entries) = rw length-supplies h in
       drop-next (suppliesOf entries) i (supplyOf (bidEntries noBid)) within
       ∙ ap (λ (ss : List Segment). ss ∷ drop (i + 1) (suppliesOf entries)) (supply-at i h)
+
+  pub supply-of : (i : ℕ) → i < n → getD (suppliesOf entries) i [] ≡ supplyOf (bidEntries (getD bids i noBid))
+  supply-of i h =
+      let within : i < length (suppliesOf entries) = rw length-supplies h in
+      ap (λ (left : List (List Segment)). getD left 0 []) (sym (drop-next (suppliesOf entries) i [] within) ∙ supplies-next i h)
 
   -- after the last
   pub supplies-done : (at : ℕ) → n ≤ at → drop at (suppliesOf entries) ≡ []

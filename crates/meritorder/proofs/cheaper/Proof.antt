@@ -7,15 +7,14 @@ use borrow.Author.Needs.{needs}
 use borrow.Author.Tests.{leb-true, leb-false}
 use Rattle.book.specs.declared.Segment.{Segment}
 use Rattle.supply.specs.Sound.{SoundSegment}
-use Rattle.choices.specs.Choice.{cheaper}
 use Rattle.choicerecord.specs.Records.{segmentAt}
 use Rattle.choicerecord.proofs.Choosing.{sound-at}
-use Rattle.meritorder.proofs.Sums.{width-counts, dearer, adds-cheaper, Summed, summed-none, sum-small, summed-next, summed-all}
+use Rattle.meritorder.proofs.Sums.{width-counts, dearer, Summed, summed-none, sum-small, summed-next, summed-all}
 use Rattle.meritorder.proofs.cheaper.Statement.{statement}
 use Rattle.meritorder.proofs.cheaper.Tie as tie
 
 abbrev Inv-loop : tie.InvT-loop
-Inv-loop n unit c sum₀ i₀ sum i = Summed (cheaper (unit .0)) c n i sum
+Inv-loop n unit c sum₀ i₀ sum i = Summed (unit .0) c n i sum
 
 abbrev μ-loop : tie.MeasureT-loop
 μ-loop n unit c sum₀ i₀ sum i = n - i
@@ -39,7 +38,7 @@ add-sum c =
     let s = l .before .before in
     let unit = s .args .unit .0 in
     let counts = width-counts unit (this l) (leb-true _ _ (sym (e .before .no-dearer .ensures) ∙ e .if1 .taken)) in
-    omega (arith, sum-small (adds-cheaper unit) (l .before .loop .inv) (s .pre) (l .loop-test .taken))
+    omega (arith, sum-small (l .before .loop .inv) (s .pre) (l .loop-test .taken))
 
 loop-again : tie.Need-loop-again Inv-loop μ-loop
 loop-again c =
@@ -47,7 +46,7 @@ loop-again c =
     let s = l .before .before in
     let unit = s .args .unit .0 in
     let test = sym (c .before .no-dearer .ensures) in
-    let next = summed-next (adds-cheaper unit) (l .before .loop .inv) (s .pre) (l .loop-test .taken) (c .if1 .sum) in
+    let next = summed-next (l .before .loop .inv) (s .pre) (l .loop-test .taken) (c .if1 .sum) in
     ⊎-elim
     (λ w. let e = width-counts unit (this l) (leb-true _ _ (test ∙ w .0 .taken)) in next (omega arith))
     (λ w. let e = dearer unit (this l) (leb-false _ _ (test ∙ w .0 .left)) in next (omega arith))
@@ -59,7 +58,7 @@ cheaper-spec =
     (tie.spec
     Inv-loop
     μ-loop
-    (λ c. summed-none (adds-cheaper _) _ _)
+    (λ c. summed-none _ _ _)
     (λ c. search needs) (λ c. search needs) (λ c κs. search needs)
     sub-sum
     add-sum

@@ -20,7 +20,7 @@ abbrev μ-loop : tie.MeasureT-loop
 
 -- Places, seen from later ones: the start from a turn, and the extra of a bidder from its price.
 abbrev start : tie.In-loop Inv-loop μ-loop → tie.Start Inv-loop μ-loop
-start c = c .before .before .before .before .before
+start c = c .before .before .before
 
 abbrev with-extra : tie.After-price Inv-loop μ-loop → tie.After-extra Inv-loop μ-loop
 with-extra c = c .before .before .before .before .before .before .before
@@ -43,10 +43,10 @@ at-end c =
     let l = c .before .before in
     within-end (l .before .loop .inv) (l .before .loop .i - 1) (next l) (start l .pre .sound) (c .extra .result .0) (c .extra .ensures)
 
-sub-t16 : tie.Need-sub-t16 Inv-loop μ-loop
-sub-t16 c =
-    let s = c .before .before .before in
-    omega (arith, fits-low (s .args .demand .0) (chosen (s .args .t1)) (s .pre .fitting), c .before .before .starts .ensures)
+sub-t15 : tie.Need-sub-t15 Inv-loop μ-loop
+sub-t15 c =
+    let s = c .before in
+    omega (arith, fits-low (s .args .demand .0) (chosen (s .args .t1)) (s .pre .fitting), s .pre .sound .carried .starts)
 
 loop-holds : tie.Need-loop-holds Inv-loop μ-loop
 loop-holds c = filling-none _ _ _ refl
@@ -95,9 +95,9 @@ loop-again c =
 
 returns : tie.Need-returns Inv-loop μ-loop
 returns c =
-    let summed = c .before .before .before .before in
-    let demand = summed .before .args .demand .0 in
-    let all = ap (λ (low : ℕ). demand - low) (summed .starts .ensures) in
+    let s = c .before .before .before in
+    let demand = s .args .demand .0 in
+    let all = ap (λ (low : ℕ). demand - low) (s .pre .sound .carried .starts) in
     (refl, filling-all (c .before .loop .inv) (omega arith) demand all)
 
 pub fill-spec : {M : Type 1} → statement M
@@ -106,8 +106,7 @@ fill-spec =
     (tie.spec
     Inv-loop
     μ-loop
-    (λ c κs. search needs)
-    sub-t16
+    sub-t15
     loop-holds
     (λ c. search needs) (λ c. search needs) (λ c. search needs)
     extra-requires

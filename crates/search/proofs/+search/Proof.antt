@@ -26,22 +26,23 @@ use Rattle.choicerecord.specs.Records.{chosen}
 use Rattle.choicerecord.proofs.Choosing.{length-chosen}
 use Rattle.comparison.specs.declared.MaybeDivision.{MaybeDivision}
 use Rattle.comparison.specs.Records.{found}
-use Rattle.charges.specs.declared.Sums.{Sums}
-use Rattle.charges.specs.Records.{SumsOf, UpTo, sumsOn, sumsWith}
+use Rattle.charges.specs.Records.{chargesIn, sumsOn, sumsWith, ChargesOf, SumsOf, UpTo}
 use Rattle.charges.proofs.Sizes.{one-up-to, up-to-small, sums-next, sums-up-to}
 use Rattle.hopeless.specs.Hopeless.{NothingBetter}
 use Rattle.search.specs.Searchable.{ChoiceOf}
 use Rattle.search.proofs.Steps.{for-all, each-none, each-next, each-all, tried, bidders-done, bidders-next, not-full, accepted-next, choosable}
-use Rattle.search.proofs.Cuts.{small-sums, cut}
+use Rattle.search.proofs.Cuts.{sums-carried, charges-among, small-sums, cut}
 use Rattle.search.proofs.search.Reads as search′
 use Rattle.search.proofs.search.Kinds as search-kinds
 use Rattle.search.proofs.+search.Lts-search as search-lts
 use Rattle.charges.proofs.charged.Reads as charged-reads
+use Rattle.charges.proofs.charges_in.Reads as charges-in-reads
 use Rattle.charges.proofs.plus.Reads as plus-reads
 use Rattle.hopeless.proofs.hopeless.Reads as hopeless-reads
 use Rattle.choicerecord.proofs.choose.Reads as choose-reads
 use Rattle.search.proofs.leaf.Reads as leaf-reads
 use Rattle.search.proofs.lost.Reads as lost-reads
+use Rattle.search.proofs.sums_of.Reads as sums-of-reads
 use Rattle.supply.proofs.segment_of.Reads as segment-of-reads
 use Rattle.search.proofs.+search.{statement}
 use Rattle.search.proofs.+search.Tie.{close}
@@ -58,6 +59,8 @@ search-below t = and 1 search-kinds.ps (falls 1 search-kinds.ps _<_ μ-search t)
 
 abbrev R : ℕ → search-lts.Claims
 R t = (
+  sums-of-reads.Asked,
+  sums-of-reads.Learnt,
   lost-reads.Asked,
   lost-reads.Learnt,
   segment-of-reads.Asked,
@@ -72,29 +75,46 @@ R t = (
   choose-reads.Learnt,
   leaf-reads.Asked,
   leaf-reads.Learnt,
+  charges-in-reads.Asked,
+  charges-in-reads.Learnt,
   search-below t,
   search′.Post,
 )
 
 abbrev search-Inv-loop : search-lts.InvT-loop
-search-Inv-loop table prices c sums book demand n at left bid so-far₀ j₀ so-far j =
+search-Inv-loop table prices c book demand n sums at left bid so-far₀ j₀ so-far j =
     let later = drop (c .count + 1) (suppliesOf (bookEntries book .bids)) in
     let from = drop j (supplyOf (bidEntries bid)) in
     (j ≤ bid .count + 1) × (found (book .count) so-far ≡ each (tried (book .demand .0) later (chosen c)) from (found (book .count) so-far₀))
 
 abbrev search-μ-loop : search-lts.MeasureT-loop
-search-μ-loop table prices c sums book demand n at left bid so-far₀ j₀ so-far j = j
+search-μ-loop table prices c book demand n sums at left bid so-far₀ j₀ so-far j = j
 
 -- What is known of the book, and of the next bidder where there is one.
 
 abbrev Start : ℕ → Type 0
 Start t = search-lts.Start (R t) (search-at t) search′.Post search-Inv-loop search-μ-loop
 
+-- its sums, and that they are those of the choice
+abbrev Judged : ℕ → Type 0
+Judged t = search-lts.After-sums-of (R t) (search-at t) search′.Post search-Inv-loop search-μ-loop
+
+sums-now : (t : ℕ) (c : Judged t)
+    → let a = c .before .before .args in
+    SumsOf (a .t1 .demand .0) (a .prices) (chosen (a .c)) (c .sums-of .result)
+sums-now t c =
+    let a = c .before .before .args in
+    let p = c .before .before .pre .1 in
+    subst (SumsOf (a .t1 .demand .0) (a .prices) (chosen (a .c))) (sym (c .sums-of .ensures)) (sums-carried _ _ (a .c) (a .charged) (p .choice-of .choice) (p .charges-of))
+
 abbrev Bidder : ℕ → Type 0
 Bidder t = search-lts.Else1 (R t) (search-at t) search′.Post search-Inv-loop search-μ-loop
 
+abbrev judged : (t : ℕ) → Bidder t → Judged t
+judged t c = c .before .before
+
 abbrev start : (t : ℕ) → Bidder t → Start t
-start t c = c .before .before .before
+start t c = judged t c .before .before
 
 held : (t : ℕ) (s : Start t) → s .args .t1 .count ≤ length (s .args .t1 .bids)
 held t s =
@@ -106,6 +126,11 @@ further t c = start t c .pre .1 .further
 
 few : (t : ℕ) (c : Bidder t) → start t c .args .c .count < 8
 few t c = not-full (start t c .pre .1 .choice-of) (further t c)
+
+small-before : (t : ℕ) (c : Bidder t) → UpTo 8 (judged t c .sums-of .result)
+small-before t c =
+    let p = start t c .pre .1 in
+    small-sums _ _ (start t c .args .c) _ (p .choice-of .choice) (p .capped) (sums-now t (judged t c))
 
 abbrev bid : (t : ℕ) → Bidder t → Bid
 bid t c = getD (start t c .args .t1 .bids) (start t c .args .c .count) noBid
@@ -147,8 +172,9 @@ sums-with t c =
     let s = start t (bidder t (c .before .before)) in
     let a = s .args in
     let l = segment t (c .before .before) in
-    let same = c .plus .ensures ∙ ap (sumsWith (a .sums)) (added t (c .before)) in
-    subst (SumsOf (a .t1 .demand .0) (a .prices) (l ∷ chosen (a .c))) (sym same) (sums-next (a .t1 .demand .0) (a .prices) l (chosen (a .c)) (a .sums) (s .pre .1 .sums-of))
+    let j = judged t (bidder t (c .before .before)) in
+    let same = c .plus .ensures ∙ ap (sumsWith (j .sums-of .result)) (added t (c .before)) in
+    subst (SumsOf (a .t1 .demand .0) (a .prices) (l ∷ chosen (a .c))) (sym same) (sums-next (a .t1 .demand .0) (a .prices) l (chosen (a .c)) _ (sums-now t j))
 
 -- A turn is done: the best so far is r, that of one segment more.
 abbrev Done : (t : ℕ) → Turn t → MaybeDivision → Type 0
@@ -201,22 +227,23 @@ chosen-now t c =
 
 search-lost-requires : (t : ℕ) → search-lts.Need-lost-requires (R t) (search-at t) search′.Post search-Inv-loop search-μ-loop
 search-lost-requires t c κs =
-    let p = c .before .pre .1 in
+    let p = c .before .before .pre .1 in
     let of = p .choice-of in
-    record { few = of .searchable .few; within = of .within; choice = of .choice; capped = p .capped; graded = p .surveyed .graded; sums-of = p .sums-of }
+    record { few = of .searchable .few; within = of .within; choice = of .choice; capped = p .capped; graded = p .surveyed .graded; sums-of = sums-now t c }
 
 search-returns : (t : ℕ) → search-lts.Need-returns (R t) (search-at t) search′.Post search-Inv-loop search-μ-loop
 search-returns t c =
-    let s = c .before .before .before in
+    let j = c .before .before in
+    let s = j .before .before in
     let a = s .args in
     let p = s .pre .1 in
     let of = p .choice-of in
     let l = c .before .lost .ensures in
     let yes = c .if1 .taken in
-    cut (a .t1) (a .prices) (a .table .now) (of .searchable) (p .surveyed) (held t s) (a .c .count) (of .within) (chosen (a .c)) (of .choice .each) (length-chosen (a .c)) (a .sums) (p .sums-of) true (a .best) (λ _. l .0 yes) (l .1 yes)
+    cut (a .t1) (a .prices) (a .table .now) (of .searchable) (p .surveyed) (held t s) (a .c .count) (of .within) (chosen (a .c)) (of .choice .each) (length-chosen (a .c)) _ (sums-now t j) true (a .best) (λ _. l .0 yes) (l .1 yes)
 
 search-sub-left : (t : ℕ) → search-lts.Need-sub-left (R t) (search-at t) search′.Post search-Inv-loop search-μ-loop
-search-sub-left t c = omega (arith, c .before .before .before .pre .1 .further)
+search-sub-left t c = omega (arith, further t c)
 
 search-mul-bid : (t : ℕ) → search-lts.Need-mul-bid (R t) (search-at t) search′.Post search-Inv-loop search-μ-loop
 search-mul-bid t c = omega (arith, few t c)
@@ -247,7 +274,7 @@ search-plus-requires t c κs =
     let p = s .pre .1 in
     let one = one-up-to (s .args .t1 .demand .0) (s .args .prices) (segment t l) (sound-segment t l) (p .capped) in
     record {
-      left = up-to-small 8 _ (omega arith) (small-sums _ _ (s .args .c) _ (p .choice-of .choice) (p .capped) (p .sums-of));
+      left = up-to-small 8 _ (omega arith) (small-before t (bidder t l));
       right = up-to-small 1 _ (omega arith) (subst (UpTo 1) (sym (added t c)) one);
     }
 
@@ -259,12 +286,13 @@ search-hopeless-requires t c κs =
     let l = c .before .before in
     let e = bidder t l in
     let p = start t e .pre .1 in
+    let now = sums-up-to _ _ 8 _ _ (sound-next t l) (p .capped) (omega (arith, length-next t l, few t e)) (sums-with t c) in
     record {
       few = p .choice-of .searchable .few;
       within = omega (arith, further t e);
       capped = p .capped;
       graded = p .surveyed .graded;
-      small = sums-up-to _ _ 8 _ _ (sound-next t l) (p .capped) (omega (arith, length-next t l, few t e)) (sums-with t c);
+      small = search (small-before t e, now);
     }
 
 search-choose-requires : (t : ℕ) → search-lts.Need-choose-requires (R t) (search-at t) search′.Post search-Inv-loop search-μ-loop
@@ -295,7 +323,7 @@ search-loop-again t c =
 
 search-search-requires : (t : ℕ) → search-lts.Need-search-requires (R t) (search-at t) search′.Post search-Inv-loop search-μ-loop
 search-search-requires t c κs =
-    let h = c .before in
+    let h = c .before .before in
     let w = h .before .before .before in
     let e = bidder t (w .before .before) in
     let s = start t e in
@@ -304,14 +332,14 @@ search-search-requires t c κs =
     let now = s .pre .0 in
     let next = h .choose .ensures in
     let count = next .0 in
-    let other = c .if3 .left in
-    let sums = subst (λ (c : List Segment). SumsOf (s .args .t1 .demand .0) (s .args .prices) c (w .plus .result)) (sym (chosen-now t h)) (sums-with t w) in
+    let other = c .before .if3 .left in
+    let charges = subst (λ (c : List Segment). ChargesOf (s .args .t1 .demand .0) (s .args .prices) c (chargesIn (w .plus .result))) (sym (chosen-now t h)) (charges-among (sums-with t w)) in
     let of : ChoiceOf (s .args .t1) (h .choose .result) = record { searchable = p .choice-of .searchable; choice = next .1 .1; within = omega arith } in
-    (omega arith, record { choice-of = of; further = omega arith; capped = p .capped; surveyed = p .surveyed; sums-of = sums })
+    (omega arith, record { choice-of = of; further = omega arith; capped = p .capped; surveyed = p .surveyed; charges-of = rw (c .charges-in .ensures) charges })
 
 search-loop-again-2 : (t : ℕ) → search-lts.Need-loop-again-2 (R t) (search-at t) search′.Post search-Inv-loop search-μ-loop
 search-loop-again-2 t c =
-    let h = c .before .before in
+    let h = c .before .before .before in
     let chosen-next = h .choose .ensures in
     let l = h .before .before .before .before .before in
     let found-next = rw (chosen-next .1 .0, chosen-next .0, l .segment-of .ensures .1) at (c .search .ensures) in
@@ -337,6 +365,7 @@ pub +search-spec : {M : Type 1} → statement M
     search′.Post
     search-Inv-loop
     search-μ-loop
+    (λ c κs. search needs)
     (search-lost-requires t)
     (search-returns t)
     (search-sub-left t)
@@ -354,6 +383,7 @@ pub +search-spec : {M : Type 1} → statement M
     (search-leaf-requires t)
     (λ c. search needs)
     (search-loop-again t)
+    (λ c κs. search needs)
     (search-search-requires t)
     (λ c. search needs)
     (search-loop-again-2 t)

@@ -4,7 +4,7 @@ use native.Mathlib.Omega.{arith}
 use mathlib.Core.List.{List, []}
 use mathlib.Core.Option.{Option}
 use mathlib.Core.Logic.{inl}
-use mathlib.Core.Path.{_≡_, sym, _∙_, subst}
+use mathlib.Core.Path.{_≡_, refl, sym, _∙_}
 use borrow.Author.Needs.{needs}
 use lib.ListN.{length, drop}
 use Rattle.book.specs.declared.Segment.{Segment}
@@ -20,8 +20,6 @@ use Rattle.choicerecord.specs.declared.Choice.{Choice}
 use Rattle.choicerecord.specs.Records.{chosen}
 use Rattle.choicerecord.proofs.Choosing.{nothing-chosen}
 use Rattle.comparison.specs.Records.{found}
-use Rattle.charges.specs.Records.{SumsOf, noSums}
-use Rattle.charges.proofs.Sizes.{sums-none}
 use Rattle.completions.proofs.Classes.{graded-zeros}
 use Rattle.search.proofs.Steps.{for-all, bidders-done}
 use Rattle.search.proofs.best_division.Statement.{statement}
@@ -33,12 +31,12 @@ from-no-choice : (demand : ℕ) (supplies : List (List Segment)) (c : Choice) (o
 from-no-choice demand supplies c o e = rw (nothing-chosen c e, e)
 
 leaf-requires : tie.Need-leaf-requires
-leaf-requires c κs = c .before .no-choice .ensures .1
+leaf-requires c κs = c .before .nothing-sold .ensures .1 .1
 
 returns : tie.Need-returns
 returns c =
     let none = c .before .no-division in
-    let empty = c .before .before .no-choice in
+    let empty = c .before .before .nothing-sold in
     let t = c .before .before .before .before in
     let s = t .before .before in
     let book = s .args .book in
@@ -65,16 +63,14 @@ search-requires : tie.Need-search-requires
 search-requires c κs =
     let b = c .before .before .before .before .before .before in
     let s = b .before .before .before in
-    let prices = b .begin .result .prices in
-    let demand = s .args .book .demand .0 in
-    let empty = c .no-choice2 .ensures in
-    let nothing = sym (nothing-chosen (c .no-choice2 .result) (empty .0)) in
+    let empty = c .nothing-sold2 .ensures in
+    let nothing = nothing-chosen (c .nothing-sold2 .result) (empty .0) in
     record {
-      choice-of = record { searchable = s .pre; choice = empty .1; within = omega (arith, empty .0) };
+      choice-of = record { searchable = s .pre; choice = empty .1 .1; within = omega (arith, empty .0) };
       further = omega (arith, empty .0, b .before .if1 .left);
       capped = b .begin .ensures .0;
       surveyed = c .before .before .survey .ensures;
-      sums-of = subst (λ (c : List Segment). SumsOf demand prices c noSums) nothing (sums-none demand prices);
+      charges-of = rw nothing (record { first = refl; second = refl });
     }
 
 returns-2 : tie.Need-returns-2
@@ -84,7 +80,7 @@ returns-2 c =
     let book = s .args .book in
     let demand = book .demand .0 in
     let supplies = suppliesOf (bookEntries book .bids) in
-    let empty = c .before .no-choice2 in
+    let empty = c .before .nothing-sold2 in
     let o = found (book .count) (b .begin .result .best) in
     c .search .ensures
     ∙ from-no-choice demand supplies (empty .result) o (empty .ensures .0)
