@@ -2,15 +2,15 @@
 use Prim.Native.Nat.{ℕ, _+_, _-_, _≤_, _<_}
 use native.Mathlib.Decide.{ℕ-discrete}
 use native.Mathlib.Omega.{arith}
-use mathlib.Core.List.{List, [], _∷_}
-use mathlib.Core.Path.{_≡_, ap, sym, subst}
-use lib.ListN.{length, getD, set, replicate, getD-replicate}
+use mathlib.Core.List.{[], _∷_}
+use mathlib.Core.Path.{_≡_, refl, ap, sym, _∙_}
+use lib.ListN.{length, set, replicate, getD-replicate}
 use lib.Seq.{getD-set-same, getD-set-other}
 use Rattle.lists.proofs.Latest.{latest-none, length-latest, latest-set, latest-at, latest-all}
 use Rattle.lists.proofs.Sums.{sum-zero, sum-exchanged, one-within}
 use Rattle.book.specs.declared.Segment.{Segment}
 use Rattle.supply.specs.Supply.{segment0}
-use Rattle.supply.specs.Sound.{mostBlanks, SoundSegment}
+use Rattle.supply.specs.Sound.{SoundSegment}
 use Rattle.supply.proofs.Accepted.{nothing-sound}
 use Rattle.choices.proofs.Sums.{adds-starts, adds-ends, starts-small, ends-small}
 use Rattle.choicerecord.specs.declared.Choice.{Choice}
@@ -33,26 +33,22 @@ module _ {c : Choice} (sound : Sound c) where
   pub ends-high : c .ends .0 ≤ 8000000
   ends-high = omega (arith, sound .carried .ends, ends-small (chosen c) (sound .each), length-chosen c, sound .few)
 
--- Nothing is sold by the first n of eight bidders.
-module _ (n : ℕ) (few : n ≤ 8) where
-  abbrev unsold : Choice
-  unsold = record { count = n; segments = replicate 8 segment0; starts = record { 0 = 0 }; ends = record { 0 = 0 } }
+-- Segment 0 for each.
+module _ (c : Choice) (few : c .count ≤ 8) (zeros : c .segments ≡ replicate 8 segment0) where
+  pub sells-nothing : SellsNothing c
+  sells-nothing = record { each = λ i h. rw zeros (getD-replicate 8 i segment0 segment0 (omega arith)) }
 
-  same : (i : ℕ) → i < n → segmentAt unsold i ≡ segment0
-  same i h = getD-replicate 8 i segment0 segment0 (omega arith)
-
-  pub sells-nothing : SellsNothing unsold
-  sells-nothing = record { each = same }
-
-  pub sound-nothing : Sound unsold
-  sound-nothing = record {
-    few = few;
-    each = latest-all segment0 SoundSegment (unsold .segments) n (λ i h. rw (same i h) nothing-sound);
-    carried = record {
-      starts = sym (sum-zero segment0 adds-starts (unsold .segments) n (λ i h. ap (λ (s : Segment). s .start .0) (same i h)));
-      ends = sym (sum-zero segment0 adds-ends (unsold .segments) n (λ i h. ap (λ (s : Segment). s .end .0) (same i h)));
-    };
-  }
+  pub sound-nothing : c .starts .0 ≡ 0 → c .ends .0 ≡ 0 → Sound c
+  sound-nothing no-starts no-ends =
+      let nothing = sells-nothing .each in
+      record {
+        few = few;
+        each = latest-all segment0 SoundSegment (c .segments) (c .count) (λ i h. rw (nothing i h) nothing-sound);
+        carried = record {
+          starts = no-starts ∙ sym (sum-zero segment0 adds-starts (c .segments) (c .count) (λ i h. ap (λ (s : Segment). s .start .0) (nothing i h)));
+          ends = no-ends ∙ sym (sum-zero segment0 adds-ends (c .segments) (c .count) (λ i h. ap (λ (s : Segment). s .end .0) (nothing i h)));
+        };
+      }
 
 -- A segment for the next bidder.
 module _ (c : Choice) (s : Segment) (few : c .count < 8) (held : length (c .segments) ≡ 8) where
@@ -98,15 +94,16 @@ module _ {c : Choice} (sound : Sound c) (i : ℕ) (bidder : i < c .count) (s : S
   here : i < length (c .segments)
   here = omega (arith, sound .few)
 
-  pub exchanged : Exchanged c i s other
-  exchanged = record { here = getD-set-same (c .segments) i s segment0 here; others = λ k e. getD-set-other (c .segments) i k s segment0 e }
+  pub exchanged : (r : Choice) → r .segments ≡ set (c .segments) i s → Exchanged c i s r
+  exchanged r stored =
+      record { here = rw stored (getD-set-same (c .segments) i s segment0 here); others = λ k e. rw stored (getD-set-other (c .segments) i k s segment0 e) }
 
   sound-each : SoundSegment s → (k : ℕ) → k < c .count → SoundSegment (segmentAt other k)
   sound-each new k h = go (ℕ-discrete k i)
     where
       go : Dec (k ≡ i) → SoundSegment (segmentAt other k)
-      go (yes e) = rw e (rw (exchanged .here) new)
-      go (no e) = rw (exchanged .others k e) (sound-at sound k h)
+      go (yes e) = rw e (rw (exchanged other refl .here) new)
+      go (no e) = rw (exchanged other refl .others k e) (sound-at sound k h)
 
   pub sound-other : SoundSegment s → Sound other
   sound-other h = record {

@@ -47,13 +47,16 @@ pub fn choose(c: Choice, s: Segment) -> Choice
     ensures { λ r. ⌜ Sound r ⌝ }
 {
     let at = c.count;
+    let count = at + 1;
     let mut segments = c.segments;
     segments[at] = s;
+    let starts = c.starts.0 + s.start.0;
+    let ends = c.ends.0 + s.end.0;
     Choice {
-        count: at + 1,
+        count,
         segments,
-        starts: Blanks(c.starts.0 + s.start.0),
-        ends: Blanks(c.ends.0 + s.end.0),
+        starts: Blanks(starts),
+        ends: Blanks(ends),
     }
 }
 
@@ -68,10 +71,14 @@ pub fn exchange(c: Choice, i: usize, s: Segment) -> Choice
     let dropped = c.segments[i];
     let mut segments = c.segments;
     segments[i] = s;
+    let kept_starts = c.starts.0 - dropped.start.0;
+    let kept_ends = c.ends.0 - dropped.end.0;
+    let starts = kept_starts + s.start.0;
+    let ends = kept_ends + s.end.0;
     Choice {
         count,
         segments,
-        starts: Blanks(c.starts.0 - dropped.start.0 + s.start.0),
-        ends: Blanks(c.ends.0 - dropped.end.0 + s.end.0),
+        starts: Blanks(starts),
+        ends: Blanks(ends),
     }
 }

@@ -8,13 +8,13 @@ use Rattle.choicerecord.proofs.Choosing.{starts-high, ends-high, chosen
 use Rattle.choicerecord.proofs.choose.Statement.{statement}
 use Rattle.choicerecord.proofs.choose.Tie as tie
 
-add-t9 : tie.Need-add-t9
-add-t9 c =
+add-starts : tie.Need-add-starts
+add-starts c =
     let p = c .before .before .before .pre in
     omega (arith, starts-high (p .choice), p .segment .order, p .segment .end-high)
 
-add-t11 : tie.Need-add-t11
-add-t11 c =
+add-ends : tie.Need-add-ends
+add-ends c =
     let p = c .before .before .before .before .before .pre in
     omega (arith, ends-high (p .choice), p .segment .order, p .segment .end-high)
 
@@ -27,4 +27,4 @@ returns c =
     (refl, (chosen-more (a .c) (a .s) few held, sound-more (a .c) (a .s) few held (s .pre .choice) (s .pre .segment)))
 
 pub choose-spec : {M : Type 1} → statement M
-choose-spec = tie.close (tie.spec (λ c. search needs) (λ c. search needs) (λ c. search needs) add-t9 add-t11 returns)
+choose-spec = tie.close (tie.spec (λ c. search needs) (λ c. search needs) (λ c. search needs) add-starts add-ends returns)

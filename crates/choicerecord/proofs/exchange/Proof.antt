@@ -8,24 +8,24 @@ use Rattle.choicerecord.proofs.Choosing.{sound-at, starts-high, ends-hi
 use Rattle.choicerecord.proofs.exchange.Statement.{statement}
 use Rattle.choicerecord.proofs.exchange.Tie as tie
 
-sub-t16 : tie.Need-sub-t16
-sub-t16 c =
+sub-kept-starts : tie.Need-sub-kept-starts
+sub-kept-starts c =
     let s = c .before .before .before in
     omega (arith, start-within (s .pre .choice) (s .args .i) (s .pre .bidder))
 
-add-t17 : tie.Need-add-t17
-add-t17 c =
-    let p = c .before .before .before .before .pre in
-    omega (arith, starts-high (p .choice), p .segment .order, p .segment .end-high)
-
-sub-t20 : tie.Need-sub-t20
-sub-t20 c =
-    let s = c .before .before .before .before .before in
+sub-kept-ends : tie.Need-sub-kept-ends
+sub-kept-ends c =
+    let s = c .before .before .before .before in
     let order = sound-at (s .pre .choice) (s .args .i) (s .pre .bidder) .order in
     omega (arith, end-within (s .pre .choice) (s .args .i) (s .pre .bidder))
 
-add-t21 : tie.Need-add-t21
-add-t21 c =
+add-starts : tie.Need-add-starts
+add-starts c =
+    let p = c .before .before .before .before .before .pre in
+    omega (arith, starts-high (p .choice), p .segment .order, p .segment .end-high)
+
+add-ends : tie.Need-add-ends
+add-ends c =
     let p = c .before .before .before .before .before .before .pre in
     omega (arith, ends-high (p .choice), p .segment .order, p .segment .end-high)
 
@@ -34,7 +34,7 @@ returns c =
     let s = c .before .before .before .before .before .before in
     let held : length (s .args .t1 .segments) ≡ 8 = search (length-held, s .good) in
     let p = s .pre in
-    let other = exchanged (p .choice) (s .args .i) (p .bidder) (s .args .s) held in
+    let other = exchanged (p .choice) (s .args .i) (p .bidder) (s .args .s) held _ refl in
     (refl, (other, sound-other (p .choice) (s .args .i) (p .bidder) (s .args .s) held (p .segment)))
 
 pub exchange-spec : {M : Type 1} → statement M
@@ -42,8 +42,8 @@ exchange-spec =
     tie.close
     (tie.spec
     (λ c. search needs) (λ c. search needs) (λ c. search needs) (λ c. search needs)
-    sub-t16
-    add-t17
-    sub-t20
-    add-t21
+    sub-kept-starts
+    sub-kept-ends
+    add-starts
+    add-ends
     returns)

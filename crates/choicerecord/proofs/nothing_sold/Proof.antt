@@ -5,7 +5,7 @@ use Rattle.choicerecord.proofs.nothing_sold.Statement.{statement}
 use Rattle.choicerecord.proofs.nothing_sold.Tie as tie
 
 returns : tie.Need-returns
-returns c = (refl, (sells-nothing _ (c .pre), sound-nothing _ (c .pre)))
+returns c = (refl, (sells-nothing _ (c .pre) refl, sound-nothing _ (c .pre) refl refl refl))
 
 pub nothing-sold-spec : {M : Type 1} → statement M
 nothing-sold-spec = tie.close (tie.spec returns)
