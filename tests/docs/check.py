@@ -1,5 +1,5 @@
-# That the pages quote and cite what is there, and that the files keep four rules. Run from the repository's top (tests/docs/run does).
-# Ten kinds of check, the last four of the files:
+# That the pages quote and cite what is there, and that the files keep five rules. Run from the repository's top (tests/docs/run does).
+# Twelve kinds of check, the last five of the files:
 #   page   docs/STATEMENTS.md is what tests/docs/statements.py makes, and no other page quotes a file in a fenced block
 #   path   a file, folder or heading that a page cites exists
 #   name   a name cited together with a file is declared in it
@@ -8,15 +8,18 @@
 #          those of crates below count, and every entry that README.md lists by one or more of its own crate
 #   asks   CLAIMS.md lists every public function of a library that has a `requires`, and no other; no entry of README.md has one
 #   crate  ARCHITECTURE.md names every crate of crates.txt, and its table of groups no other
+#   same   where the last landing's note says that the contracts of the entries are those of a commit, they are, word for word
 #   layer  what is to be believed names nothing of proofs/: no definition of specs/ and no contract of src/, but for the exceptions below
 #   shut   a definition behind a name is opened by the proofs of its own crate alone, and the code names a bid's carriage only where it is
 #          read, written, checked and put into a price, the printed sampling table only where none is passed, or it is written
+#   sums   a choice's record is made in `choicerecord` alone, and every function that gives one ensures that it carries its sums
 #   proof  a Proof.antt begins with a comment, which says why the function meets its contract
 #   named  nothing that a file of specs/ or proofs/ declares or binds, and no parameter, field or local of the code, has the name of a
 #          function of the library, which a reader would take it for
 import glob
 import os
 import re
+import subprocess
 import sys
 
 import edits
@@ -325,6 +328,38 @@ def check_crates():
         check(name in listed, f"{ARCHITECTURE}:{number}", f"no crate {name} in crates.txt")
 
 
+# ---- the contracts of the entries, and those of an earlier commit
+
+SAME = re.compile(r"the contracts of the\s+entries are those of commit `([0-9a-f]{7,40})`", re.I)
+
+
+def git(*words):
+    """What git prints, or None where it fails, as where a copy has no history."""
+    run = subprocess.run(["git", *words], capture_output=True, encoding="utf-8", check=False)
+    return run.stdout if run.returncode == 0 else None
+
+
+def contract(function, texts):
+    """A public function's signature and contract, of the texts of its crate's files."""
+    return [head for text in texts for head in re.findall(rf"^pub (?:extern \"C\" )?fn {function}\b.*?\{{$", text, re.S | re.M)]
+
+
+def check_same():
+    said = SAME.search(read(NOTES[-1]))
+    if not said:
+        return
+    files = git("ls-tree", "-r", "--name-only", said[1], "crates/")
+    if files is None:
+        print(f"{NOTES[-1]}: commit {said[1]} is not here, so the contracts of the entries are not compared with its")
+        return
+    for entry in listed_entries():
+        crate, _, function = entry.partition("::")
+        there = [git("show", f"{said[1]}:{file}") for file in re.findall(rf"^crates/{crate}/src/.*\.rt$", files, re.M)]
+        here = [read(file) for file in glob.glob(f"crates/{crate}/src/**/*.rt", recursive=True)]
+        same = contract(function, there) == contract(function, here) != []
+        check(same, NOTES[-1], f"the contract of {entry} is not that of commit {said[1]}")
+
+
 # ---- layers
 
 # What is used of proofs/ all the same: file, name, reason.
@@ -388,6 +423,32 @@ def check_shut():
             check(crate in allowed, f"crates/{crate}", f"names {name}")
 
 
+# ---- choices and their sums
+
+MAKES_CHOICES = "choicerecord"
+
+
+def saying(name):
+    """The definitions of specs/ that have the named one in them, itself first."""
+    said = [name]
+    texts = [uncommented(file) for file in glob.glob("crates/*/specs/**/*.antt", recursive=True)]
+    records = [found for text in texts for found in re.findall(r"^pub record (\w+)(.*(?:\n +.*)*)", text, re.M)]
+    for outer in said:
+        said += [record for record, fields in records if record not in said and re.search(rf": .*\b{outer}\b", fields)]
+    return said
+
+
+def check_sums():
+    sound = rf"ensures {{ λ r\. ⌜ (?:{'|'.join(saying('Carried'))}) .*\br ⌝ }}"
+    for file in sorted(glob.glob("crates/*/src/**/*.rt", recursive=True)):
+        text, made_here = uncommented(file), f"crates/{MAKES_CHOICES}/" in file
+        made = re.findall(r"(?<!struct )\bChoice \{|\.(?:starts|ends) = |\.segments\[\w+\] = ", text)
+        if "Choice" in text:
+            check(made_here or made == [], file, "makes or changes the record of a choice")
+        for name, contract in re.findall(r"^(?:pub )?fn (\w+)[^{]*?-> Choice\n((?: .*\n)*)", text, re.M):
+            check(re.search(sound, contract) is not None, file, f"{name} does not ensure that the choice it gives carries its sums")
+
+
 # ---- what a proof begins with
 
 
@@ -437,8 +498,10 @@ def main():
     check_edits()
     check_asks()
     check_crates()
+    check_same()
     check_layers()
     check_shut()
+    check_sums()
     check_proofs()
     check_library_names()
     for fault in faults:
