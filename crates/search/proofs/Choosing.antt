@@ -2,17 +2,18 @@
 use Prim.Native.Nat.{ℕ, zero, suc, _≤_, _<_}
 use native.Mathlib.Decide.{ℕ-discrete}
 use native.Mathlib.Omega.{arith}
-use mathlib.Core.List.{List, [], _∷_, List·Memᴰ as In, List·Memᴰ·head as here}
-use mathlib.Core.Path.{_≡_, refl}
+use mathlib.Core.List.{List, [], _∷_, List·Memᴰ as In}
+use mathlib.Core.Path.{_≡_}
 use lib.ListN.{length, getD, drop, drop-of-length-le}
 use lib.Seq.{drop-cons}
 use Rattle.lists.proofs.Latest.{latest-none, latest-next}
 use Rattle.book.specs.declared.Segment.{Segment}
 use Rattle.book.specs.declared.Book.{Book}
-use Rattle.book.specs.Entries.{BidEntries, bidEntries, bookEntries}
+use Rattle.book.specs.Entries.{bidEntries, bookEntries}
 use Rattle.book.proofs.Records.{noBid}
 use Rattle.book.proofs.Accepted.{accepted-at}
-use Rattle.supply.specs.Supply.{segment0, supplyOf, suppliesOf}
+use Rattle.supply.specs.Supply.{supplyOf, suppliesOf}
+use Rattle.supply.proofs.Supply.{segment-0-in}
 use Rattle.supply.proofs.Supplies.{length-supplies, supply-of}
 use Rattle.divisions.specs.Award.{Priced}
 use Rattle.choices.specs.Leaf.{Leaf}
@@ -20,10 +21,6 @@ use Rattle.choicerecord.specs.declared.Choice.{Choice}
 use Rattle.choicerecord.specs.Records.{segmentAt, firstSegments, chosen, Sound, SellsNothing, Exchanged}
 use Rattle.search.specs.ChosenFrom.{ChosenFrom, HasBidder, ExchangedFrom}
 use Rattle.search.specs.Searchable.{Searchable}
-
-nothing-offered : (b : BidEntries) → In segment0 (supplyOf b)
-unfolding supplyOf
-nothing-offered b = here refl
 
 -- one segment in the place of another
 pub exchanged-from : {c r : Choice} {i : ℕ} {s : Segment} → r .count ≡ c .count → Exchanged c i s r → Sound r → (supply : List Segment) → In s supply
@@ -39,7 +36,7 @@ module _ (book : Book) (searchable : Searchable (bookEntries book)) (held : book
   from-nothing c e nothing sound = record {
     sound = sound;
     all = rw (length-supplies (book .bids) (book .count) held) e;
-    each = λ i h. rw (nothing .each i h, supply-of (book .bids) (book .count) held i (omega (arith, e))) (nothing-offered _);
+    each = λ i h. rw (nothing .each i h, supply-of (book .bids) (book .count) held i (omega (arith, e))) (segment-0-in _);
   }
 
   module _ {c : Choice} (p : ChosenFrom supplies c) (i : ℕ) (further : i < book .count) where

@@ -4,7 +4,7 @@ use Prim.Native.Nat.{ℕ, zero, suc, _+_, _-_, _≤_, _<_}
 use native.Mathlib.Numerals.{sub-one}
 use native.Mathlib.Omega.{arith}
 use mathlib.Core.Bool.{Bool, true, false}
-use mathlib.Core.List.{List, _∷_, map}
+use mathlib.Core.List.{List, _∷_, map, List·Memᴰ as In, List·Memᴰ·head as here}
 use mathlib.Core.Path.{_≡_, refl}
 use lib.IntN.{pos}
 use lib.ListN.{length, getD, take, length-map}
@@ -51,6 +51,10 @@ module _ (bid : Bid) where
 pub segment-none : (b : BidEntries) → segment0 ≡ getD (supplyOf b) 0 segment0
 unfolding supplyOf
 segment-none b = refl
+
+pub segment-0-in : (b : BidEntries) → In segment0 (supplyOf b)
+unfolding supplyOf
+segment-0-in b = here refl
 
 -- Quantity 0 is on segment 0, at price 0.
 
