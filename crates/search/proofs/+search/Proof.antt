@@ -127,6 +127,7 @@ further t c = start t c .pre .1 .further
 few : (t : ℕ) (c : Bidder t) → start t c .args .c .count < 8
 few t c = not-full (start t c .pre .1 .choice-of) (further t c)
 
+-- they are small enough to be added to, and to be judged by
 small-before : (t : ℕ) (c : Bidder t) → UpTo 8 (judged t c .sums-of .result)
 small-before t c =
     let p = start t c .pre .1 in
