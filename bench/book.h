@@ -56,7 +56,7 @@ static inline int64_t price(const struct segment *s, uint64_t quantity)
     return (int64_t)(s->unit * quantity) + s->fixed;
 }
 
-/* Every choice of segments in the product's order, each complete one added up afresh, filled and compared; all clearings. */
+/* Every choice of segments in the product's order, the sums carried along, each complete one that fits filled and compared; all clearings. */
 void exhaustive_clear(const struct book *book, struct clearing *out);
 
 /* The product's algorithm: the same search, less the parts where nothing better can be found; the product's clearings. */

@@ -98,7 +98,7 @@ static int64_t meeting_price(const struct book *book)
 static void choose_favourites(struct choice *c, int64_t blank)
 {
     for (size_t i = 0; i < c->book->count; i++) {
-        c->chosen[i] = favourite(&c->book->bids[i], c->book->demand, blank);
+        choice_choose(c, i, favourite(&c->book->bids[i], c->book->demand, blank));
     }
 }
 
@@ -108,11 +108,13 @@ static void vary(struct choice *c, size_t i)
     const struct segment *own = c->chosen[i];
     const struct bid *bid = &c->book->bids[i];
 
+    choice_drop(c, i);
     for (size_t j = 0; j <= bid->count; j++) {
-        c->chosen[i] = &bid->segments[j];
+        choice_choose(c, i, &bid->segments[j]);
         choice_compare(c);
+        choice_drop(c, i);
     }
-    c->chosen[i] = own;
+    choice_choose(c, i, own);
 }
 
 /* A first division to start from: the best of those choices that differ from the favourites in at most one bidder, and of one that was
@@ -122,6 +124,9 @@ static void first_division(struct choice *c, int64_t blank)
     choose_favourites(c, blank);
     for (size_t i = 0; i < c->book->count; i++) {
         vary(c, i);
+    }
+    for (size_t i = 0; i < c->book->count; i++) {
+        choice_drop(c, i);
     }
 }
 
@@ -299,10 +304,11 @@ static void choose(struct choice *c, const struct bounds *b, size_t at, const st
     for (size_t j = bid->count + 1; j-- > 0;) {
         struct sums sums = with(chosen, &bid->segments[j], c->book->demand, b->prices);
 
-        c->chosen[at] = &bid->segments[j];
+        choice_choose(c, at, &bid->segments[j]);
         if (!hopeless(c, b, at + 1, &sums)) {
             choose(c, b, at + 1, &sums);
         }
+        choice_drop(c, at);
     }
 }
 

@@ -1,28 +1,8 @@
-/* The cheapest division within a choice, as the product finds it: each complete choice is added up afresh, filled and compared. Records are
- * passed by pointer, and the best division is changed in place. */
+/* The cheapest division within a choice, as the product finds it: a complete choice that fits by the sums it carries is filled and compared.
+ * Records are passed by pointer, and the choice and the best division are changed in place. */
 #include "choice.h"
 
 #include <string.h>
-
-static uint64_t starts(const struct choice *c)
-{
-    uint64_t sum = 0;
-
-    for (size_t i = 0; i < c->book->count; i++) {
-        sum += c->chosen[i]->start;
-    }
-    return sum;
-}
-
-static uint64_t ends(const struct choice *c)
-{
-    uint64_t sum = 0;
-
-    for (size_t i = 0; i < c->book->count; i++) {
-        sum += c->chosen[i]->end;
-    }
-    return sum;
-}
 
 /* What the first n of the chosen segments can take over their starts, of those that are no dearer than `unit`. */
 static uint64_t cheaper(const struct choice *c, size_t n, uint64_t unit)
@@ -55,7 +35,7 @@ static uint64_t share(const struct choice *c, size_t i, uint64_t left)
 /* The cheapest quantities within a choice that fits. */
 static void fill(const struct choice *c, struct division *out)
 {
-    uint64_t left = c->book->demand - starts(c);
+    uint64_t left = c->book->demand - c->starts;
 
     *out = (struct division){.found = true};
     for (size_t i = c->book->count; i-- > 0;) {
@@ -85,7 +65,7 @@ void choice_compare(struct choice *c)
 {
     struct division new;
 
-    if (c->book->demand < starts(c) || ends(c) < c->book->demand) {
+    if (c->book->demand < c->starts || c->ends < c->book->demand) {
         return;
     }
     fill(c, &new);

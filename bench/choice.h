@@ -10,12 +10,28 @@ struct division {
     uint64_t quantities[BIDS];
 };
 
-/* The segments chosen so far, and the best division so far of the book's demand. */
+/* The segments chosen so far with the sums of their starts and of their ends, and the best division so far of the book's demand. */
 struct choice {
     const struct book *book;
     const struct segment *chosen[BIDS];
+    uint64_t starts, ends;
     struct division best;
 };
+
+/* A segment is chosen for the bidder with the index i, who has none. */
+static inline void choice_choose(struct choice *c, size_t i, const struct segment *s)
+{
+    c->chosen[i] = s;
+    c->starts += s->start;
+    c->ends += s->end;
+}
+
+/* It is dropped, and the sums are again those before it. */
+static inline void choice_drop(struct choice *c, size_t i)
+{
+    c->starts -= c->chosen[i]->start;
+    c->ends -= c->chosen[i]->end;
+}
 
 /* The division of a complete choice, where it fits the demand, is compared with the best so far. */
 void choice_compare(struct choice *c);

@@ -12,8 +12,9 @@ static void choose(struct choice *c, size_t at)
     }
     bid = &c->book->bids[at];
     for (size_t j = bid->count + 1; j-- > 0;) {
-        c->chosen[at] = &bid->segments[j];
+        choice_choose(c, at, &bid->segments[j]);
         choose(c, at + 1);
+        choice_drop(c, at);
     }
 }
 
