@@ -291,12 +291,15 @@ static bool hopeless(const struct choice *c, const struct bounds *b, size_t n, c
     return true;
 }
 
-/* A segment for the bidder with the index `at`, each in turn from its last to segment 0, and then for those after it where there is hope. */
+/* A segment for the bidder with the index `at`, each in turn from its last to segment 0, and then for those after it where there is hope. The
+ * sums are passed on, and a complete choice has them. */
 static void choose(struct choice *c, const struct bounds *b, size_t at, const struct sums *chosen)
 {
     const struct bid *bid;
 
     if (at == c->book->count) {
+        c->starts = (uint64_t)chosen->low;
+        c->ends = (uint64_t)chosen->high;
         choice_compare(c);
         return;
     }
@@ -304,11 +307,10 @@ static void choose(struct choice *c, const struct bounds *b, size_t at, const st
     for (size_t j = bid->count + 1; j-- > 0;) {
         struct sums sums = with(chosen, &bid->segments[j], c->book->demand, b->prices);
 
-        choice_choose(c, at, &bid->segments[j]);
+        c->chosen[at] = &bid->segments[j];
         if (!hopeless(c, b, at + 1, &sums)) {
             choose(c, b, at + 1, &sums);
         }
-        choice_drop(c, at);
     }
 }
 

@@ -103,7 +103,7 @@ results() {
 # Times of the product and of other methods
 
 \`bench/run\` writes this file. Milliseconds; of $runs runs the fastest counts. A solver that takes over a second is run once, and any other
-method that takes over half a second.
+method that takes over half a second; one that takes under five milliseconds is run ten times as often.
 
 | Book | product | plain C search, bounded | plain C search, exhaustive | dynamic program | glpsol, first clearing only | cbc, first clearing only |
 |---|--:|--:|--:|--:|--:|--:|
