@@ -330,7 +330,7 @@ def check_crates():
 
 # ---- the contracts of the entries, and those of an earlier commit
 
-SAME = re.compile(r"the contracts of the\s+entries are those of commit `([0-9a-f]{7,40})`", re.I)
+SAME = re.compile(r"the contracts of the entries are those of commit `([0-9a-f]{7,40})`".replace(" ", r"\s+"), re.I)
 
 
 def git(*words):
