@@ -14,7 +14,8 @@ use money::Blanks;
 use money::Cents;
 use money::CentsPerBlank;
 
-// The starts add up to at most the demand, and the ends to at least it, by the sums that the choice carries; prices do not matter.
+// The starts add up to at most the demand, and the ends to at least it, by the sums that the choice
+// carries; prices do not matter.
 pub fn fits(c: Choice, demand: Blanks) -> bool
     requires { ⌜ Sound c ⌝ }
     ensures { λ r. ⌜ r ≡ fits (demand .0) (chosen c) ⌝ }
