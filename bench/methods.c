@@ -2,11 +2,11 @@
 #include "methods.h"
 
 #include "boccelarch.h"
+#include "clock.h"
 
 #include <inttypes.h>
 #include <stdio.h>
 #include <string.h>
-#include <time.h>
 
 static bool product(const struct text *text, const struct book *book, struct clearing *out)
 {
@@ -56,14 +56,6 @@ const struct method METHODS[METHOD_COUNT] = {
     [BOUNDED] = {"bounded", bounded},
     [DYNAMIC] = {"dp", dynamic_program},
 };
-
-static double milliseconds(void)
-{
-    struct timespec t;
-
-    clock_gettime(CLOCK_MONOTONIC, &t);
-    return 1e3 * (double)t.tv_sec + (double)t.tv_nsec / 1e6;
-}
 
 static bool same(const struct clearing *a, const struct clearing *b)
 {

@@ -1,25 +1,17 @@
-/* Times the product alone: `product RUNS BOOK...` prints a line for each book, its path, the milliseconds of the fastest run, and a number
- * that is made of everything the award has, so that two archives can be compared. */
+/* Times the product alone: `product RUNS BOOK...` prints a line for each book, its path, the milliseconds of the fastest run, and a hash
+ * of all numbers of the award, so that two archives can be compared. */
 #include "boccelarch.h"
 #include "book.h"
+#include "clock.h"
 
 #include <inttypes.h>
 #include <stdio.h>
 #include <stdlib.h>
-#include <time.h>
 
 struct answer {
     uint64_t number, place, total, count;
     uint64_t rows[BOCCELARCH_AWARD_NUMBERS];
 };
-
-static double milliseconds(void)
-{
-    struct timespec now;
-
-    clock_gettime(CLOCK_MONOTONIC, &now);
-    return (double)now.tv_sec * 1e3 + (double)now.tv_nsec / 1e6;
-}
 
 static double run(const struct text *text, struct answer *a)
 {
@@ -29,7 +21,7 @@ static double run(const struct text *text, struct answer *a)
     return milliseconds() - start;
 }
 
-/* Another number for another answer, as good as always. */
+/* A hash of the answer, FNV-1a over its words: two answers that differ have the same one only by chance. */
 static uint64_t made_of(const struct answer *a)
 {
     const uint64_t *words = (const uint64_t *)a;
