@@ -20,6 +20,7 @@ use Rattle.sampling.specs.Entries.{TableEntries}
 use Rattle.supply.specs.Supply.{suppliesOf}
 use Rattle.supply.specs.Allocation.{bought}
 use Rattle.supply.proofs.Accepted.{sound-supplies}
+use Rattle.supply.proofs.Orders.{meets-low}
 use Rattle.divisions.specs.Division.{Allocation}
 use Rattle.divisions.specs.Award.{Priced, awardOfBook}
 use Rattle.divisions.specs.IsAward.{insideCount}
@@ -43,11 +44,11 @@ use Rattle.awardtheorems.proofs.Counts.{few-bids, bids-counted}
 module _ (b : BookEntries) where
   pub award-of-book : (award : Priced) → awardOfBook b ≡ some award → IsAwardOf b award
   unfolding awardOfBook
-  award-of-book award e = award-is (b .demand) (suppliesOf (b .bids)) award e
+  award-of-book award e = award-is (b .order) (suppliesOf (b .bids)) award e
 
   pub no-award-of-book : (awardOfBook b ≡ none) ↔ ((rs : List ℕ) → DivisionOf b rs → ⊥)
   unfolding awardOfBook
-  no-award-of-book = no-award-iff (b .demand) (suppliesOf (b .bids))
+  no-award-of-book = no-award-iff (b .order) (suppliesOf (b .bids))
 
   -- "not covered" is said exactly when there is no division
   pub not-covered-iff : (table : TableEntries) → bookVerdict b ≡ Accepted → (clearSampled table b .verdict ≡ Refused NotCovered 0) ↔ ((rs : List ℕ) → DivisionOf b rs → ⊥)
@@ -88,11 +89,11 @@ module _ (b : BookEntries) where
           (award, award-of-book award f, ap (λ (x : Cents). x .0) same)
 
 -- no bids at all have no division
-nobody-sells : (b : BookEntries) (rs : List ℕ) → b .bids ≡ [] → 1 ≤ b .demand → DivisionOf b rs → ⊥
+nobody-sells : (b : BookEntries) (rs : List ℕ) → b .bids ≡ [] → 1 ≤ b .order .demand .0 → DivisionOf b rs → ⊥
 unfolding bought
-nobody-sells b rs nobody some-demand d = go rs (subst (λ (bs : List BidEntries). Allocation (suppliesOf bs) rs) nobody (d .allocation)) (d .meets)
+nobody-sells b rs nobody some-demand d = go rs (subst (λ (bs : List BidEntries). Allocation (suppliesOf bs) rs) nobody (d .allocation)) (meets-low (b .order) (bought rs) (d .sum))
   where
-    go : (rs : List ℕ) → Allocation [] rs → bought rs ≡ b .demand → ⊥
+    go : (rs : List ℕ) → Allocation [] rs → b .order .demand .0 ≤ bought rs → ⊥
     go [] a e = omega arith
     go (r ∷ rs) a e = a
 
@@ -157,7 +158,7 @@ module _ (table : TableEntries) (book : Book) (held : length (book .bids) ≡ 8)
     one-inside =
         let sound = sound-supplies (b .bids) (all-accepted b (c .accepted)) in
         subst (λ (d : Priced). insideCount (suppliesOf (b .bids)) (d .quantities) ≤ 1) (sym says)
-        (at-most-one-inside (b .demand) (suppliesOf (b .bids)) sound (c .award) (c .is-award))
+        (at-most-one-inside (b .order) (suppliesOf (b .bids)) sound (c .award) (c .is-award))
 
     -- where no other bid is left, it is `none`
     nobody-left : b .count ≡ 1 → bookWithout 0 b .bids ≡ []

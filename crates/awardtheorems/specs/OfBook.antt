@@ -9,8 +9,8 @@ use Rattle.divisions.specs.IsAward.{IsAward}
 
 -- every way to divide the demand among the bids
 abbrev pub DivisionOf : BookEntries → List ℕ → Type 0
-DivisionOf b rs = Division (b .demand) (suppliesOf (b .bids)) rs
+DivisionOf b rs = Division (b .order) (suppliesOf (b .bids)) rs
 
 -- the best of them: every other costs more, or costs the same and gives less to the first bidder at whom the two differ
 abbrev pub IsAwardOf : BookEntries → Priced → Type 0
-IsAwardOf b award = IsAward (b .demand) (suppliesOf (b .bids)) award
+IsAwardOf b award = IsAward (b .order) (suppliesOf (b .bids)) award

@@ -57,8 +57,8 @@ book-accepted b e =
     let (demand, (some-bids, (bids, (few-bids, _)))) = all-passed (_ ∷ _ ∷ _ ∷ _ ∷ []) e in
     let asked = test-holds _ _ _ demand in
     record {
-      demand-low = within-low 1 1000000 (b .demand) asked;
-      demand-high = within-high 1 1000000 (b .demand) asked;
+      demand-low = within-low 1 1000000 (b .order .demand .0) asked;
+      demand-high = within-high 1 1000000 (b .order .demand .0) asked;
       count-low = ltb-true 0 (b .count) (test-holds _ _ _ some-bids);
       count-high = leb-true (b .count) 8 (test-holds _ _ _ few-bids);
       bids = bids;

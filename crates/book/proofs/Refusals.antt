@@ -68,7 +68,7 @@ module _ (P : Rule → Type 0) (each : All P recordRules) (most : ℕ) where
   by-book : (b : BookEntries) → 10 ≤ most → 1 + length (b .bids) ≤ most → RefusedBy Named (bookVerdict b)
   unfolding bookVerdict
   by-book b l l′ =
-      let demand = within 1 1000000 (b .demand) in
+      let demand = within 1 1000000 (b .order .demand .0) in
       let some-bid = ltb 0 (b .count) in
       let few = leb (b .count) 8 in
       by-first Named (unless demand Range 1 ∷ unless some-bid BidCount 2 ∷ bidsVerdict 2 0 (b .bids) ∷ unless few BidCount 10 ∷ []) (

@@ -20,7 +20,7 @@ same-room a b e = ap roomOf e
 
 -- a bid stored past the count
 pub past-bids : (b : Book) (i : ℕ) (bid : Bid) → b .count ≤ i
-    → SameBook (record { demand = b .demand; count = b .count; bids = set (b .bids) i bid }) b
+    → SameBook (record { order = b .order; count = b .count; bids = set (b .bids) i bid }) b
 past-bids b i bid h =
     rw (take-set-le (b .count) (b .bids) i bid h)
 
@@ -33,7 +33,7 @@ past-segment b j s h =
     rw (take-set-le (b .count) (b .segments) j s h)
 
 pub past-segments : (b : Book) (i j : ℕ) (s : Segment) → getD (b .bids) i noBid .count ≤ j
-    → SameBook (record { demand = b .demand; count = b .count; bids = set (b .bids) i (withSegment (getD (b .bids) i noBid) j s) }) b
+    → SameBook (record { order = b .order; count = b .count; bids = set (b .bids) i (withSegment (getD (b .bids) i noBid) j s) }) b
 past-segments b i j s h =
     let bid = getD (b .bids) i noBid in
     let stored = set (b .bids) i (withSegment bid j s) in

@@ -23,8 +23,8 @@ pub record AcceptedLine (before : ℕ) (b : BidEntries) : Type 0 where
   pub above : before < b .bidder
 
 pub record AcceptedBook (b : BookEntries) : Type 0 where
-  pub demand-low : 1 ≤ b .demand
-  pub demand-high : b .demand ≤ 1000000
+  pub demand-low : 1 ≤ b .order .demand .0
+  pub demand-high : b .order .demand .0 ≤ 1000000
   pub count-low : 1 ≤ b .count
   pub count-high : b .count ≤ 8
   pub bids : bidsVerdict 2 0 (b .bids) ≡ Accepted

@@ -68,7 +68,7 @@ bidsVerdict line before (b ∷ bs) = firstOf (bidVerdict line before b ∷ bidsV
 unfoldable pub bookVerdict : BookEntries → Verdict
 bookVerdict b =
     firstOf
-    (unless (within 1 1000000 (b .demand)) Range 1
+    (unless (within 1 1000000 (b .order .demand .0)) Range 1
     ∷ unless (ltb 0 (b .count)) BidCount 2
     ∷ bidsVerdict 2 0 (b .bids)
     ∷ unless (leb (b .count) 8) BidCount 10

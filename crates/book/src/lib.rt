@@ -23,10 +23,15 @@ pub struct Bid {
     pub segments: [Segment; 6],
 }
 
-// A bid book: the first `count` of the bids; the others are ignored. A count may say that there
+// What the mints ask for.
+pub struct Order {
+    pub demand: Blanks,
+}
+
+// A bid book: the order, and the first `count` of the bids; the others are ignored. A count may say that there
 // were more bids or segments than the record holds: such a book is refused.
 pub struct Book {
-    pub demand: Blanks,
+    pub order: Order,
     pub count: usize,
     pub bids: [Bid; 8],
 }

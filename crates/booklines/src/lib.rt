@@ -7,6 +7,7 @@ ghost use Rattle.booklines.specs.Parses.{AddingAsks, ParsesDemand, Parse
 mod segments;
 
 use book::Book;
+use book::Order;
 use money::Blanks;
 use money::CentsPerBlank;
 use scanner::Cursor;
@@ -77,7 +78,8 @@ fn demand(text: &[u8], from: Cursor) -> ParsedBook
     let next = parsed.next;
     let mut book = bookrecord::empty_book();
     let demand = Blanks(parsed.first);
-    book.demand = demand;
+    let order = Order { demand };
+    book.order = order;
     ParsedBook { book, next }
 }
 

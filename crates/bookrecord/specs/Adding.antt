@@ -12,7 +12,7 @@ abbrev pub withSegment : Bid → Segment → Bid
 withSegment b s = record { bidder = b .bidder; carriage = b .carriage; count = b .count + 1; segments = added 6 (b .segments) (b .count) s }
 
 abbrev pub withBid : Book → Bid → Book
-withBid b bid = record { demand = b .demand; count = b .count + 1; bids = added 8 (b .bids) (b .count) bid }
+withBid b bid = record { order = b .order; count = b .count + 1; bids = added 8 (b .bids) (b .count) bid }
 
 -- entries more, one after the other
 abbrev pub withSegments : Bid → List Segment → Bid

@@ -5,6 +5,7 @@ ghost use Rattle.booktext.specs.Record.{emptySegment, emptyBid, emptyBook};
 ghost use Rattle.bookrecord.specs.Adding.{withSegment, withBid};
 use book::Bid;
 use book::Book;
+use book::Order;
 use book::Segment;
 use money::Blanks;
 use money::Cents;
@@ -38,7 +39,7 @@ pub fn empty_book() -> Book
 {
     let bid = empty_bid();
     Book {
-        demand: Blanks(0),
+        order: Order { demand: Blanks(0) },
         count: 0,
         bids: [bid; 8],
     }

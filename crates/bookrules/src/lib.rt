@@ -16,7 +16,7 @@ use refusal::Verdict;
 pub fn check(book: Book) -> Verdict
     ensures { λ r. ⌜ r ≡ bookVerdict (bookEntries book) ⌝ }
 {
-    if !segmentrules::within(1, 1_000_000, book.demand.0) {
+    if !segmentrules::within(1, 1_000_000, book.order.demand.0) {
         return Verdict::Refused(Rule::Range, 1);
     }
     let count = book.count;

@@ -48,7 +48,7 @@ module _ (b : Book) (arrays : Arrays b) (accepted : bookVerdict (bookEntries b) 
       let lines = map-all bidEntries AcceptedBid bs (all-accepted (bookEntries b) accepted) in
       let arrays = all-take SixSegments (b .count) (b .bids) (arrays .segments) in
       record {
-        demand = few-digits (b .demand .0) (omega arith);
+        demand = few-digits (b .order .demand .0) (omega arith);
         count = rw length-map (sym (length-take-le (b .count) (b .bids) few));
         some = a .count-low;
         bids = all-map bidEntries WellFormedBid bs (all-from _ _ well-formed-bid bs (all-both _ SixSegments bs lines arrays));

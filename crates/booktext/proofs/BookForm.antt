@@ -93,7 +93,7 @@ pub head-laws : Laws head
 head-laws = framed-laws (ascii "(demand ") (numbers-laws bookFurther) (ascii ")\n") (λ r l k. omega arith)
 
 abbrev fromBook : BookEntries → Head × List BidEntries
-fromBook b = (b .demand, b .bids)
+fromBook b = (b .order .demand .0, b .bids)
 
 same-book : Same (sequence head bids) (λ x. bookOf (x .0) (x .1)) fromBook WellFormedBook bookText
 unfolding bookHead bookText

@@ -76,7 +76,7 @@ module _ (b : BookEntries) (well-formed : WellFormedBook b) (accepted : bookVerd
   pub room-bounds : length (bookText b) ≤ 17 + roomOfBids (b .bids)
   unfolding bookHead bookText
   room-bounds =
-      let demand = seven (b .demand) (book-accepted b accepted .demand-high) in
+      let demand = seven (b .order .demand .0) (book-accepted b accepted .demand-high) in
       let each =
       all-from _ RoomFor bid-short (b .bids)
       (all-both WellFormedBid AcceptedBid (b .bids) (well-formed .bids) (all-accepted b accepted)) in

@@ -11,6 +11,7 @@ use Rattle.forms.specs.Many.{one-or-more}
 use Rattle.forms.specs.Signed.{signed}
 use Rattle.forms.specs.Spaced.{Numbers, numbers}
 use Rattle.book.specs.declared.Segment.{Segment}
+use Rattle.book.specs.declared.Order.{Order}
 use Rattle.book.specs.Entries.{BidEntries, BookEntries}
 use Rattle.booktext.specs.BookText.{segmentText, bidText, bookText}
 use Rattle.booktext.specs.WellFormed.{WellFormedSegment, WellFormedBid, WellFormedBook}
@@ -67,9 +68,12 @@ Head = Numbers bookFurther
 abbrev pub head : Form Head
 head = framed (ascii "(demand ") (numbers bookFurther) (ascii ")\n")
 
+abbrev pub orderOf : Head → Order
+orderOf h = record { demand = record { 0 = h } }
+
 -- the book
 abbrev pub bookOf : Head → List BidEntries → BookEntries
-bookOf h xs = record { demand = h; count = length xs; bids = xs }
+bookOf h xs = record { order = orderOf h; count = length xs; bids = xs }
 
 abbrev pub book : Form BookEntries
 book = via (sequence head bids) (λ x. bookOf (x .0) (x .1)) WellFormedBook bookText

@@ -26,7 +26,7 @@ bidText b = bidHead b ++ joined segmentText (b .segments) ++ ascii ")\n"
 
 -- the demand, and then the bids
 unfoldable pub bookHead : BookEntries → List ℕ
-bookHead b = ascii "(demand " ++ digits (b .demand) ++ ascii ")\n"
+bookHead b = ascii "(demand " ++ digits (b .order .demand .0) ++ ascii ")\n"
 
 unfoldable pub bookText : BookEntries → List ℕ
 bookText b = bookHead b ++ joined bidText (b .bids)

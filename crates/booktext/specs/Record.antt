@@ -6,6 +6,7 @@ use lib.ListN.{replicate}
 use Rattle.lists.specs.Padded.{padded}
 use Rattle.book.specs.declared.Segment.{Segment}
 use Rattle.book.specs.declared.Bid.{Bid}
+use Rattle.book.specs.declared.Order.{Order}
 use Rattle.book.specs.declared.Book.{Book}
 use Rattle.book.specs.Entries.{BidEntries, BookEntries}
 
@@ -16,11 +17,14 @@ emptySegment = record { start = record { 0 = 0 }; end = record { 0 = 0 }; unit =
 abbrev pub emptyBid : Bid
 emptyBid = record { bidder = 0; carriage = record { 0 = 0 }; count = 0; segments = replicate 6 emptySegment }
 
+abbrev pub noOrder : Order
+noOrder = record { demand = record { 0 = 0 } }
+
 abbrev pub emptyBook : Book
-emptyBook = record { demand = record { 0 = 0 }; count = 0; bids = replicate 8 emptyBid }
+emptyBook = record { order = noOrder; count = 0; bids = replicate 8 emptyBid }
 
 unfoldable pub bidRecord : BidEntries → Bid
 bidRecord b = record { bidder = b .bidder; carriage = record { 0 = b .carriage }; count = b .count; segments = padded 6 emptySegment (b .segments) }
 
 unfoldable pub bookRecord : BookEntries → Book
-bookRecord b = record { demand = record { 0 = b .demand }; count = b .count; bids = padded 8 emptyBid (map bidRecord (b .bids)) }
+bookRecord b = record { order = b .order; count = b .count; bids = padded 8 emptyBid (map bidRecord (b .bids)) }

@@ -24,7 +24,7 @@ pub record WellFormedBid (b : BidEntries) : Type 0 where
   pub segments : All WellFormedSegment (b .segments)
 
 pub record WellFormedBook (b : BookEntries) : Type 0 where
-  pub demand : ThirteenDigits (b .demand)
+  pub demand : ThirteenDigits (b .order .demand .0)
   pub count : b .count ≡ length (b .bids)
   pub some : 1 ≤ b .count
   pub bids : All WellFormedBid (b .bids)

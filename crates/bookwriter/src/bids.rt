@@ -93,7 +93,7 @@ fn book_head(book: Book) -> [Part; 8]
     ensures { λ r. ⌜ joined partText r ≡ bookHead (bookEntries book) ⌝ }
 {
     [
-        Part::Number(Word::Demand, book.demand.0),
+        Part::Number(Word::Demand, book.order.demand.0),
         Part::Fixed(Word::CloseLine),
         Part::Nothing,
         Part::Nothing,

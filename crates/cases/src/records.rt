@@ -5,6 +5,7 @@ use crate::show;
 use awardwriter::Layout;
 use book::Bid;
 use book::Book;
+use book::Order;
 use book::Segment;
 use money::Blanks;
 use money::Cents;
@@ -56,7 +57,9 @@ fn book(text: &[u8]) -> Book {
     let mut n = [0u64; 270];
     pieces::numbers(text, &mut n);
     Book {
-        demand: Blanks(n[0]),
+        order: Order {
+            demand: Blanks(n[0]),
+        },
         count: n[1] as usize,
         bids: [
             bid(&n, 27),

@@ -9,15 +9,17 @@ use lib.IntN.{natAbs}
 use lib.ListN.{length}
 use Rattle.lists.specs.All.{All}
 use Rattle.book.specs.declared.Segment.{Segment}
+use Rattle.book.specs.declared.Order.{Order}
 use Rattle.book.specs.Rules.{priceOn}
 use Rattle.supply.specs.Allocation.{bought}
+use Rattle.supply.specs.Meets.{mostOf}
 use Rattle.supply.specs.Sound.{SoundSegment}
 use Rattle.choices.specs.Choice.{width, placed}
 use Rattle.choices.proofs.Fill.{base, cost, Box}
 use Rattle.choices.proofs.Placed.{price-on}
 use Rattle.charges.specs.Charge.{million, chargeAt, charge, charges}
 
-module _ (demand l : ℕ) (s : Segment) (sound : SoundSegment s) where
+module _ (order : Order) (l : ℕ) (s : Segment) (sound : SoundSegment s) where
   -- what a quantity on the segment costs, by its charge
   charge-on : (r y : ℕ) → r ≡ s .start .0 + y → r ≤ million → chargeAt l s r + l * r ≡ base s + s .unit .0 * y + l * million
   unfolding chargeAt
@@ -28,19 +30,19 @@ module _ (demand l : ℕ) (s : Segment) (sound : SoundSegment s) where
       let product = ap (λ (n : ℕ). l * n) whole in
       omega arith
 
-  pub charge-below : (x : ℕ) → x ≤ width s → s .start .0 + x ≤ demand
-      → charge demand l s + l * (s .start .0 + x) ≤ base s + s .unit .0 * x + l * million
+  pub charge-below : (x : ℕ) → x ≤ width s → s .start .0 + x ≤ mostOf order
+      → charge order l s + l * (s .start .0 + x) ≤ base s + s .unit .0 * x + l * million
   unfolding charge width
   charge-below x h k = go (decLt (s .unit .0) l)
     where
       a : ℕ
       a = s .start .0
 
-      -- the end, or the demand where that is less
+      -- the end, or the most that the order takes where that is less
       e : ℕ
-      e = min (s .end .0) demand
+      e = min (s .end .0) (mostOf order)
 
-      go : Dec (s .unit .0 < l) → charge demand l s + l * (a + x) ≤ base s + s .unit .0 * x + l * million
+      go : Dec (s .unit .0 < l) → charge order l s + l * (a + x) ≤ base s + s .unit .0 * x + l * million
       go (yes m) =
           let more : ℕ = e - (a + x) in
           let at : e ≡ a + (x + more) = omega (arith, sound .order) in
@@ -50,9 +52,9 @@ module _ (demand l : ℕ) (s : Segment) (sound : SoundSegment s) where
           let high : l ≤ s .unit .0 = omega arith in
           omega (arith, charge-on a 0 (omega arith) (omega (arith, sound .order, sound .end-high)), mul-le-mul-right x high)
 
-pub charges-below : (demand l : ℕ) (c : List Segment) (xs : List ℕ) → All SoundSegment c → Box c xs → bought (placed c xs) ≤ demand
-    → charges demand l c + l * bought (placed c xs) ≤ cost c xs + l * (million * length c)
+pub charges-below : (order : Order) (l : ℕ) (c : List Segment) (xs : List ℕ) → All SoundSegment c → Box c xs → bought (placed c xs) ≤ mostOf order
+    → charges order l c + l * bought (placed c xs) ≤ cost c xs + l * (million * length c)
 unfolding bought
-charges-below demand l [] [] sound b h = omega arith
-charges-below demand l (s ∷ c) (x ∷ xs) sound b h =
-    omega (arith, charge-below demand l s (sound .0) x (b .0) (omega arith), charges-below demand l c xs (sound .1) (b .1) (omega arith))
+charges-below order l [] [] sound b h = omega arith
+charges-below order l (s ∷ c) (x ∷ xs) sound b h =
+    omega (arith, charge-below order l s (sound .0) x (b .0) (omega arith), charges-below order l c xs (sound .1) (b .1) (omega arith))

@@ -8,6 +8,7 @@ use lib.IntN.{natAbs}
 use lib.ListN.{length}
 use Rattle.lists.specs.All.{All}
 use Rattle.book.specs.declared.Segment.{Segment}
+use Rattle.book.specs.declared.Order.{Order}
 use Rattle.book.specs.Rules.{priceOn}
 use Rattle.supply.specs.Sound.{priceLimit, SoundSegment}
 use Rattle.supply.proofs.Sound.{price-small}
@@ -24,19 +25,19 @@ module _ (s : Segment) (r l : ℕ) (asked : ChargeableAt s r l) where
   pub rest-size : l * (million - r) ≤ highest * million
   rest-size = let short : million - r ≤ million = omega arith in mul-le-mul (asked .capped) short
 
-pub charge-small : (demand l : ℕ) (s : Segment) → SoundSegment s → l ≤ highest → charge demand l s ≤ mostCharge
+pub charge-small : (order : Order) (l : ℕ) (s : Segment) → SoundSegment s → l ≤ highest → charge order l s ≤ mostCharge
 unfolding charge chargeAt
-charge-small demand l s sound capped =
+charge-small order l s sound capped =
     let asked : ChargeableAt s (s .start .0) l = record { sound = sound; few = omega (arith, sound .order, sound .end-high); capped = capped } in
     omega (arith, price-size s (s .start .0) l asked, rest-size s (s .start .0) l asked)
 
 -- a segment of an accepted bid
-pub one-up-to : (demand : ℕ) (prices : Prices) (s : Segment) → SoundSegment s → Capped prices → UpTo 1 (sumsOn demand prices s)
-one-up-to demand prices s sound capped = record {
+pub one-up-to : (order : Order) (prices : Prices) (s : Segment) → SoundSegment s → Capped prices → UpTo 1 (sumsOn order prices s)
+one-up-to order prices s sound capped = record {
   low = omega (arith, sound .order, sound .end-high);
   high = omega (arith, sound .end-high);
-  first = omega (arith, charge-small demand (prices .first .0) s sound (capped .first));
-  second = omega (arith, charge-small demand (prices .second .0) s sound (capped .second));
+  first = omega (arith, charge-small order (prices .first .0) s sound (capped .first));
+  second = omega (arith, charge-small order (prices .second .0) s sound (capped .second));
 }
 
 -- over at most nine bidders nothing wraps
@@ -45,21 +46,21 @@ up-to-small k x h u = record { low = omega (arith, u .low); high = omega (arith,
 
 -- A choice: its sums, and how large they are.
 
-charges-small : (demand l : ℕ) (c : List Segment) → All SoundSegment c → l ≤ highest → charges demand l c ≤ mostCharge * length c
-charges-small demand l [] sound capped = omega arith
-charges-small demand l (s ∷ c) sound capped = omega (arith, charge-small demand l s (sound .0) capped, charges-small demand l c (sound .1) capped)
+charges-small : (order : Order) (l : ℕ) (c : List Segment) → All SoundSegment c → l ≤ highest → charges order l c ≤ mostCharge * length c
+charges-small order l [] sound capped = omega arith
+charges-small order l (s ∷ c) sound capped = omega (arith, charge-small order l s (sound .0) capped, charges-small order l c (sound .1) capped)
 
-module _ (demand : ℕ) (prices : Prices) where
-  pub sums-next : (s : Segment) (c : List Segment) (x : Sums) → SumsOf demand prices c x
-      → SumsOf demand prices (s ∷ c) (sumsWith x (sumsOn demand prices s))
+module _ (order : Order) (prices : Prices) where
+  pub sums-next : (s : Segment) (c : List Segment) (x : Sums) → SumsOf order prices c x
+      → SumsOf order prices (s ∷ c) (sumsWith x (sumsOn order prices s))
   sums-next s c x h = record { low = omega arith; high = omega arith; first = omega arith; second = omega arith }
 
-  pub sums-up-to : (k : ℕ) (c : List Segment) (x : Sums) → All SoundSegment c → Capped prices → length c ≤ k → SumsOf demand prices c x → UpTo k x
+  pub sums-up-to : (k : ℕ) (c : List Segment) (x : Sums) → All SoundSegment c → Capped prices → length c ≤ k → SumsOf order prices c x → UpTo k x
   sums-up-to k c x sound capped few h = record {
     low = omega (arith, starts-small c sound);
     high = omega (arith, ends-small c sound);
-    first = omega (arith, charges-small demand (prices .first .0) c sound (capped .first));
-    second = omega (arith, charges-small demand (prices .second .0) c sound (capped .second));
+    first = omega (arith, charges-small order (prices .first .0) c sound (capped .first));
+    second = omega (arith, charges-small order (prices .second .0) c sound (capped .second));
   }
 
 pub up-to-more : (j k : ℕ) (x : Sums) → j ≤ k → UpTo j x → UpTo k x

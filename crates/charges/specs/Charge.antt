@@ -5,7 +5,9 @@ use Prim.Native.Nat.{ℕ, _+_, _*_, _-_, min}
 use mathlib.Core.List.{List, [], _∷_}
 use lib.IntN.{natAbs}
 use Rattle.book.specs.declared.Segment.{Segment}
+use Rattle.book.specs.declared.Order.{Order}
 use Rattle.book.specs.Rules.{priceOn}
+use Rattle.supply.specs.Meets.{mostOf}
 use Rattle.supply.specs.Sound.{mostBlanks, unitLimit, priceLimit}
 
 -- a million, the most that a bid can sell
@@ -16,14 +18,14 @@ million = mostBlanks
 unfoldable pub chargeAt : ℕ → Segment → ℕ → ℕ
 chargeAt l s r = natAbs (priceOn s r) + l * (million - r)
 
--- a segment is charged as its start or its end is, whichever is less; no division gives more than the demand
-unfoldable pub charge : ℕ → ℕ → Segment → ℕ
-charge demand l s = min (chargeAt l s (s .start .0)) (chargeAt l s (min (s .end .0) demand))
+-- a segment is charged as its start or its end is, whichever is less; no division gives more than the order takes
+unfoldable pub charge : Order → ℕ → Segment → ℕ
+charge order l s = min (chargeAt l s (s .start .0)) (chargeAt l s (min (s .end .0) (mostOf order)))
 
 -- the segments of a choice
-abbrev pub charges : ℕ → ℕ → List Segment → ℕ
-charges demand l [] = 0
-charges demand l (s ∷ c) = charge demand l s + charges demand l c
+abbrev pub charges : Order → ℕ → List Segment → ℕ
+charges order l [] = 0
+charges order l (s ∷ c) = charge order l s + charges order l c
 
 -- the highest price of a blank: no unit price is above it, and no charge wraps
 abbrev pub highest : ℕ

@@ -3,6 +3,7 @@ use Prim.Native.Nat.{ℕ, _+_, _*_, _^_, _≤_}
 use mathlib.Core.List.{List}
 use mathlib.Core.Path.{_≡_}
 use Rattle.book.specs.declared.Segment.{Segment}
+use Rattle.book.specs.declared.Order.{Order}
 use Rattle.supply.specs.Sound.{SoundSegment}
 use Rattle.choices.specs.Choice.{starts, ends}
 use Rattle.charges.specs.declared.Prices.{Prices}
@@ -37,12 +38,12 @@ pub record ChargeableBy (s : Segment) (prices : Prices) : Type 0 where
   pub capped : Capped prices
 
 -- the sums of one segment
-abbrev pub sumsOn : ℕ → Prices → Segment → Sums
-sumsOn demand prices s = record {
+abbrev pub sumsOn : Order → Prices → Segment → Sums
+sumsOn order prices s = record {
   low = s .start;
   high = s .end;
-  first = charge demand (prices .first .0) s;
-  second = charge demand (prices .second .0) s;
+  first = charge order (prices .first .0) s;
+  second = charge order (prices .second .0) s;
 }
 
 -- the charges among some sums
@@ -71,16 +72,16 @@ pub record Addable (x y : Sums) : Type 0 where
   pub right : Small y
 
 -- the charges of a choice
-pub record ChargesOf (demand : ℕ) (prices : Prices) (c : List Segment) (x : Charges) : Type 0 where
-  pub first : x .first ≡ charges demand (prices .first .0) c
-  pub second : x .second ≡ charges demand (prices .second .0) c
+pub record ChargesOf (order : Order) (prices : Prices) (c : List Segment) (x : Charges) : Type 0 where
+  pub first : x .first ≡ charges order (prices .first .0) c
+  pub second : x .second ≡ charges order (prices .second .0) c
 
 -- the sums of a choice
-pub record SumsOf (demand : ℕ) (prices : Prices) (c : List Segment) (x : Sums) : Type 0 where
+pub record SumsOf (order : Order) (prices : Prices) (c : List Segment) (x : Sums) : Type 0 where
   pub low : x .low .0 ≡ starts c
   pub high : x .high .0 ≡ ends c
-  pub first : x .first ≡ charges demand (prices .first .0) c
-  pub second : x .second ≡ charges demand (prices .second .0) c
+  pub first : x .first ≡ charges order (prices .first .0) c
+  pub second : x .second ≡ charges order (prices .second .0) c
 
 -- sums over k bidders are no larger than this; one more is let be for an end that is not counted
 pub record UpTo (k : ℕ) (x : Sums) : Type 0 where

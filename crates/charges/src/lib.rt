@@ -4,6 +4,7 @@ ghost use mathlib.Core.Path.{_≡_};
 ghost use Prim.Native.Nat.{_*_, min};
 ghost use Rattle.charges.specs.Charge.{chargeAt, charge};
 ghost use Rattle.charges.specs.Records.{Payable, ChargeableAt, Chargeable, ChargeableBy, Addable, chargesIn, sumsOn, sumsWith};
+use book::Order;
 use book::Segment;
 use money::Blanks;
 use money::Cents;
@@ -61,28 +62,29 @@ fn charge_at(s: Segment, quantity: Blanks, price: CentsPerBlank) -> u64
 }
 
 // What a segment is charged: as its start or its end, whichever is less. It is pub for the hints.
-pub fn charge(s: Segment, demand: Blanks, price: CentsPerBlank) -> u64
+pub fn charge(s: Segment, order: Order, price: CentsPerBlank) -> u64
     requires { ⌜ Chargeable s (price .0) ⌝ }
-    ensures { λ r. ⌜ r ≡ charge (demand .0) (price .0) s ⌝ }
+    ensures { λ r. ⌜ r ≡ charge order (price .0) s ⌝ }
 {
     let start = s.start;
-    let end = Blanks(smaller(s.end.0, demand.0));
+    let high = s.end;
+    let end = supply::capped(order, high);
     let at_start = charge_at(s, start, price);
     let at_end = charge_at(s, end, price);
     smaller(at_start, at_end)
 }
 
 // The sums of one segment. It is pub, as `plus` is, for the search and for what is worked out before it.
-pub fn charged(s: Segment, demand: Blanks, prices: Prices) -> Sums
+pub fn charged(s: Segment, order: Order, prices: Prices) -> Sums
     requires { ⌜ ChargeableBy s prices ⌝ }
-    ensures { λ r. ⌜ r ≡ sumsOn (demand .0) prices s ⌝ }
+    ensures { λ r. ⌜ r ≡ sumsOn order prices s ⌝ }
 {
     let low = s.start;
     let high = s.end;
     let a = prices.first;
     let b = prices.second;
-    let first = charge(s, demand, a);
-    let second = charge(s, demand, b);
+    let first = charge(s, order, a);
+    let second = charge(s, order, b);
     Sums {
         low,
         high,

@@ -10,7 +10,9 @@ use lib.IntN.{pos}
 use Rattle.lists.specs.All.{All}
 use Rattle.lists.proofs.Members.{all-in}
 use Rattle.book.specs.declared.Segment.{Segment}
+use Rattle.book.specs.declared.Order.{Order}
 use Rattle.supply.specs.Allocation.{bought}
+use Rattle.supply.specs.Meets.{mostOf}
 use Rattle.supply.specs.Sound.{SoundSegment}
 use Rattle.supply.proofs.Sound.{SoundSupply}
 use Rattle.divisions.specs.Award.{Priced}
@@ -28,14 +30,15 @@ use Rattle.choices.specs.Chosen.{Chosen}
 abbrev pub together : List Segment → List ℕ → List Segment → List ℕ → Priced
 together c xs e ys = record { cost = pos (cost c xs + cost e ys); quantities = reverseAux (placed c xs) (placed e ys) }
 
--- d is these quantities, which meet the demand with at most one bidder strictly inside
-pub record Divides (demand : ℕ) (supplies : List (List Segment)) (c : List Segment) (d : Priced) : Type 0 where
+-- d is these quantities, which the order takes, with at most one bidder strictly inside
+pub record Divides (order : Order) (supplies : List (List Segment)) (c : List Segment) (d : Priced) : Type 0 where
   pub extras : List ℕ
   pub later : List Segment
   pub laterShares : List ℕ
   pub box : Box c extras
   pub chosen : Chosen supplies later laterShares
-  pub meets : bought (placed c extras) + bought (placed later laterShares) ≡ demand
+  pub enough : order .demand .0 ≤ bought (placed c extras) + bought (placed later laterShares)
+  pub not-over : bought (placed c extras) + bought (placed later laterShares) ≤ mostOf order
   pub is : d ≡ together c extras later laterShares
   pub few : insides c extras + insides later laterShares ≤ 1
 
@@ -56,55 +59,59 @@ wins-better c xs ys b d (inr (h, inr k)) =
     let more = less-more (placed c ys) (placed c xs) [] [] (placed-less c ys xs d b k) in
     inr (better-tie (together c xs [] []) (together c ys [] []) (ap pos same) more)
 
-module _ (demand : ℕ) (c : List Segment) (sound : All SoundSegment c) where
+module _ (order : Order) (c : List Segment) (sound : All SoundSegment c) where
   abbrev left : ℕ
-  left = demand - starts c
+  left = order .demand .0 - starts c
 
   abbrev given : List ℕ
-  given = extrasOf demand c
+  given = extrasOf order c
 
-  filled-is : filled demand c ≡ together c given [] []
+  filled-is : filled order c ≡ together c given [] []
   unfolding filled
   filled-is =
       let sum : cost c given ≡ cost c given + 0 = omega arith in
       λ i. record { cost = (cost-with c given sound ∙ ap pos sum) i; quantities = reverse (placed c given) }
 
-  leaf-divides : fits demand c ≡ true → Divides demand [] c (filled demand c)
+  leaf-divides : fits order c ≡ true → Divides order [] c (filled order c)
   unfolding bought
   leaf-divides f =
-      let low = fits-low demand c f in
-      let high = fits-high demand c f in
+      let low = fits-low order c f in
+      let high = fits-high order c f in
       let box = extras-box left c in
+      let sum = placed-bought c given box in
+      let given-all = extras-bought left c (omega (arith, ends-widths c sound)) in
       record {
         extras = given;
         later = [];
         laterShares = [];
         box = box;
         chosen = tt;
-        meets = omega (arith, placed-bought c given box, extras-bought left c (omega (arith, ends-widths c sound)));
+        enough = omega arith;
+        not-over = omega arith;
         is = filled-is;
         few = omega (arith, one-inside c given (extras-cert left c));
       }
 
-  -- where extras meet the demand, the choice fits, and what it is given is at least as good
-  leaf-fits : (xs : List ℕ) → Box c xs → bought (placed c xs) ≡ demand → fits demand c ≡ true
-  leaf-fits xs b e =
-      let sum = placed-bought c xs b in
-      fits-when demand c (omega arith) (omega (arith, box-widths c xs b, ends-widths c sound))
+  -- where extras give what the order takes, the choice fits, and what it is given is at least as good
+  module _ (xs : List ℕ) (b : Box c xs) (enough : order .demand .0 ≤ bought (placed c xs)) (not-over : bought (placed c xs) ≤ mostOf order) where
+    leaf-fits : fits order c ≡ true
+    leaf-fits =
+        let sum = placed-bought c xs b in
+        fits-when order c (omega arith) (omega (arith, box-widths c xs b, ends-widths c sound))
 
-  leaf-better : (xs : List ℕ) → Box c xs → bought (placed c xs) ≡ demand → NotBetter (together c xs [] []) (filled demand c)
-  leaf-better xs b e =
-      let sum = placed-bought c xs b in
-      let all : bought given ≡ left = extras-bought left c (omega (arith, box-widths c xs b)) in
-      let box = extras-box left c in
-      rw filled-is (wins-better c given xs box b (cert-wins c given xs (extras-cert left c) box b (omega arith)))
+    leaf-better : NotBetter (together c xs [] []) (filled order c)
+    leaf-better =
+        let sum = placed-bought c xs b in
+        let all : bought given ≡ left = extras-bought left c (omega (arith, box-widths c xs b)) in
+        let box = extras-box left c in
+        rw filled-is (wins-better c given xs box b (cert-wins c given xs (extras-cert left c) box b (omega arith)))
 
 -- Any choice so far.
 
-divides-next : (demand : ℕ) (supplies : List (List Segment)) (ss : List Segment) (s : Segment) (c : List Segment) (d : Priced) → In s ss
-    → Divides demand supplies (s ∷ c) d → Divides demand (ss ∷ supplies) c d
+divides-next : (order : Order) (supplies : List (List Segment)) (ss : List Segment) (s : Segment) (c : List Segment) (d : Priced) → In s ss
+    → Divides order supplies (s ∷ c) d → Divides order (ss ∷ supplies) c d
 unfolding bought
-divides-next demand supplies ss s c d m p = go (p .extras) (p .box) (p .meets) (p .is) (p .few)
+divides-next order supplies ss s c d m p = go (p .extras) (p .box) (p .enough) (p .not-over) (p .is) (p .few)
   where
     e : List Segment
     e = p .later
@@ -112,36 +119,40 @@ divides-next demand supplies ss s c d m p = go (p .extras) (p .box) (p .meets) (
     ys : List ℕ
     ys = p .laterShares
 
-    go : (xs : List ℕ) → Box (s ∷ c) xs → bought (placed (s ∷ c) xs) + bought (placed e ys) ≡ demand → d ≡ together (s ∷ c) xs e ys
-        → insides (s ∷ c) xs + insides e ys ≤ 1 → Divides demand (ss ∷ supplies) c d
-    go [] b t i f = absurd b
-    go (x ∷ xs) b t i f = record {
+    go : (xs : List ℕ) → Box (s ∷ c) xs → order .demand .0 ≤ bought (placed (s ∷ c) xs) + bought (placed e ys)
+        → bought (placed (s ∷ c) xs) + bought (placed e ys) ≤ mostOf order → d ≡ together (s ∷ c) xs e ys → insides (s ∷ c) xs + insides e ys ≤ 1
+        → Divides order (ss ∷ supplies) c d
+    go [] b l h i f = absurd b
+    go (x ∷ xs) b l h i f = record {
       extras = xs;
       later = s ∷ e;
       laterShares = x ∷ ys;
       box = b .1;
       chosen = (m, b .0, p .chosen);
-      meets = omega arith;
+      enough = omega arith;
+      not-over = omega arith;
       is = i ∙ shift s x c xs e ys;
       few = omega arith;
     }
 
-pub divides : (demand : ℕ) (supplies : List (List Segment)) (c : List Segment) (d : Priced) → All SoundSupply supplies → All SoundSegment c
-    → Leaf demand supplies c d → Divides demand supplies c d
-divides demand [] c d sound before (f, e) = rw e (leaf-divides demand c before f)
-divides demand (ss ∷ supplies) c d sound before (s, m, l) =
+pub divides : (order : Order) (supplies : List (List Segment)) (c : List Segment) (d : Priced) → All SoundSupply supplies → All SoundSegment c
+    → Leaf order supplies c d → Divides order supplies c d
+divides order [] c d sound before (f, e) = rw e (leaf-divides order c before f)
+divides order (ss ∷ supplies) c d sound before (s, m, l) =
     let one = all-in SoundSegment ss s (sound .0 .each) m in
-    divides-next demand supplies ss s c d m (divides demand supplies (s ∷ c) d (sound .1) (one, before) l)
+    divides-next order supplies ss s c d m (divides order supplies (s ∷ c) d (sound .1) (one, before) l)
 
 -- and some complete choice gives quantities at least as good as these
-pub as-good : (demand : ℕ) (supplies : List (List Segment)) (c : List Segment) (xs : List ℕ) (e : List Segment) (ys : List ℕ)
-    → All SoundSupply supplies → All SoundSegment c → Box c xs → Chosen supplies e ys → bought (placed c xs) + bought (placed e ys) ≡ demand
-    → (t : Priced) × Leaf demand supplies c t × NotBetter (together c xs e ys) t
+pub as-good : (order : Order) (supplies : List (List Segment)) (c : List Segment) (xs : List ℕ) (e : List Segment) (ys : List ℕ)
+    → All SoundSupply supplies → All SoundSegment c → Box c xs → Chosen supplies e ys
+    → order .demand .0 ≤ bought (placed c xs) + bought (placed e ys) → bought (placed c xs) + bought (placed e ys) ≤ mostOf order
+    → (t : Priced) × Leaf order supplies c t × NotBetter (together c xs e ys) t
 unfolding bought
-as-good demand [] c xs [] [] sound before b a t =
-    let all : bought (placed c xs) ≡ demand = omega arith in
-    (filled demand c, (leaf-fits demand c before xs b all, refl), leaf-better demand c before xs b all)
-as-good demand (ss ∷ supplies) c xs (s ∷ e) (x ∷ ys) sound before b (m, w, a) t =
+as-good order [] c xs [] [] sound before b a low high =
+    let enough : order .demand .0 ≤ bought (placed c xs) = omega arith in
+    let not-over : bought (placed c xs) ≤ mostOf order = omega arith in
+    (filled order c, (leaf-fits order c before xs b enough not-over, refl), leaf-better order c before xs b enough not-over)
+as-good order (ss ∷ supplies) c xs (s ∷ e) (x ∷ ys) sound before b (m, w, a) low high =
     let one = all-in SoundSegment ss s (sound .0 .each) m in
-    let (d, l, n) = as-good demand supplies (s ∷ c) (x ∷ xs) e ys (sound .1) (one, before) (w, b) a (omega arith) in
+    let (d, l, n) = as-good order supplies (s ∷ c) (x ∷ xs) e ys (sound .1) (one, before) (w, b) a (omega arith) (omega arith) in
     (d, (s, m, l), subst (λ (p : Priced). NotBetter p d) (shift s x c xs e ys) n)

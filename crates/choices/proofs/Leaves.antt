@@ -1,11 +1,11 @@
 -- The search finds the best of its complete choices that fit. Assumes nothing.
-use Prim.Native.Nat.{ℕ}
 use mathlib.Core.Bool.{Bool, true, false, cond, false≢true}
 use mathlib.Core.List.{List, [], _∷_, List·Memᴰ as In, List·Memᴰ·head as here, List·Memᴰ·tail as there, List·Memᴰ·not-nil}
 use mathlib.Core.Logic.{_⊎_, inl, inr, ⊎-elim}
 use mathlib.Core.Option.{Option}
 use mathlib.Core.Path.{_≡_, refl, sym, _∙_}
 use Rattle.book.specs.declared.Segment.{Segment}
+use Rattle.book.specs.declared.Order.{Order}
 use Rattle.divisions.specs.Award.{Priced, pick}
 use Rattle.divisions.proofs.IsBest.{IsBest, best-iff, best-pick}
 use Rattle.choices.specs.Choice.{fits, filled}
@@ -36,28 +36,28 @@ module _ (L : Segment → Priced → Type 0) (f : Segment → Option Priced → 
       from d (inr (t, here e, l)) = inr (rw e at l)
       from d (inr (t, there m, l)) = inl (inr (t, m, l))
 
-leaf-best : (demand : ℕ) (c : List Segment) (P : Priced → Type 0) (o : Option Priced) → IsBest P o
-    → IsBest (λ d. P d ⊎ Leaf demand [] c d) (leaf demand c o)
+leaf-best : (order : Order) (c : List Segment) (P : Priced → Type 0) (o : Option Priced) → IsBest P o
+    → IsBest (λ d. P d ⊎ Leaf order [] c d) (leaf order c o)
 unfolding leaf
-leaf-best demand c P o b = go (fits demand c) refl
+leaf-best order c P o b = go (fits order c) refl
   where
     new : Priced
-    new = filled demand c
+    new = filled order c
 
-    go : (t : Bool) → fits demand c ≡ t → IsBest (λ d. P d ⊎ ((fits demand c ≡ true) × (d ≡ new))) (cond t (pick o new) o)
+    go : (t : Bool) → fits order c ≡ t → IsBest (λ d. P d ⊎ ((fits order c ≡ true) × (d ≡ new))) (cond t (pick o new) o)
     go true e =
-        best-iff (λ d. P d ⊎ ((fits demand c ≡ true) × (d ≡ new))) (λ d. P d ⊎ (d ≡ new)) (pick o new)
+        best-iff (λ d. P d ⊎ ((fits order c ≡ true) × (d ≡ new))) (λ d. P d ⊎ (d ≡ new)) (pick o new)
         (λ d. ⊎-elim (λ p. inl p) (λ h. inr (e, h)))
         (λ d. ⊎-elim (λ p. inl p) (λ h. inr (h .1)))
         (best-pick P o new b)
     go false e =
-        best-iff (λ d. P d ⊎ ((fits demand c ≡ true) × (d ≡ new))) P o (λ d p. inl p)
+        best-iff (λ d. P d ⊎ ((fits order c ≡ true) × (d ≡ new))) P o (λ d p. inl p)
         (λ d. ⊎-elim (λ p. p) (λ h. absurd (false≢true (sym e ∙ h .0))))
         b
 
-pub search-best : (demand : ℕ) (supplies : List (List Segment)) (c : List Segment) (P : Priced → Type 0) (o : Option Priced) → IsBest P o
-    → IsBest (λ d. P d ⊎ Leaf demand supplies c d) (search demand supplies c o)
+pub search-best : (order : Order) (supplies : List (List Segment)) (c : List Segment) (P : Priced → Type 0) (o : Option Priced) → IsBest P o
+    → IsBest (λ d. P d ⊎ Leaf order supplies c d) (search order supplies c o)
 unfolding search
-search-best demand [] c P o b = leaf-best demand c P o b
-search-best demand (ss ∷ supplies) c P o b =
-    each-best (λ s. Leaf demand supplies (s ∷ c)) (λ s. search demand supplies (s ∷ c)) (λ s. search-best demand supplies (s ∷ c)) P o b ss
+search-best order [] c P o b = leaf-best order c P o b
+search-best order (ss ∷ supplies) c P o b =
+    each-best (λ s. Leaf order supplies (s ∷ c)) (λ s. search order supplies (s ∷ c)) (λ s. search-best order supplies (s ∷ c)) P o b ss

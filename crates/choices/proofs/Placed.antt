@@ -13,8 +13,10 @@ use Rattle.lists.specs.All.{All}
 use Rattle.lists.proofs.Tests.{both-left, both-right}
 use Rattle.money.specs.Price.{priceOf}
 use Rattle.book.specs.declared.Segment.{Segment}
+use Rattle.book.specs.declared.Order.{Order}
 use Rattle.book.specs.Rules.{priceOn}
 use Rattle.supply.specs.Allocation.{bought}
+use Rattle.supply.specs.Meets.{mostOf}
 use Rattle.supply.specs.Sound.{SoundSegment}
 use Rattle.divisions.specs.Award.{givesMore}
 use Rattle.divisions.proofs.Order.{more-here, more-later}
@@ -57,18 +59,18 @@ unfolding width
 ends-widths [] sound = refl
 ends-widths (s ∷ c) sound = omega (arith, sound .0 .order, ends-widths c (sound .1))
 
-module _ (demand : ℕ) (c : List Segment) where
-  pub fits-low : fits demand c ≡ true → starts c ≤ demand
+module _ (order : Order) (c : List Segment) where
+  pub fits-low : fits order c ≡ true → starts c ≤ mostOf order
   unfolding fits
-  fits-low e = leb-true (starts c) demand (both-left (leb (starts c) demand) (leb demand (ends c)) e)
+  fits-low e = leb-true (starts c) (mostOf order) (both-left (leb (starts c) (mostOf order)) (leb (order .demand .0) (ends c)) e)
 
-  pub fits-high : fits demand c ≡ true → demand ≤ ends c
+  pub fits-high : fits order c ≡ true → order .demand .0 ≤ ends c
   unfolding fits
-  fits-high e = leb-true demand (ends c) (both-right (leb (starts c) demand) (leb demand (ends c)) e)
+  fits-high e = leb-true (order .demand .0) (ends c) (both-right (leb (starts c) (mostOf order)) (leb (order .demand .0) (ends c)) e)
 
-  pub fits-when : starts c ≤ demand → demand ≤ ends c → fits demand c ≡ true
+  pub fits-when : starts c ≤ mostOf order → order .demand .0 ≤ ends c → fits order c ≡ true
   unfolding fits
-  fits-when h k = rw (le-leb (starts c) demand h, le-leb demand (ends c) k)
+  fits-when h k = rw (le-leb (starts c) (mostOf order) h, le-leb (order .demand .0) (ends c) k)
 
 -- Where they differ first, in book order.
 

@@ -6,7 +6,9 @@ use mathlib.Core.List.{List, [], _∷_, reverse}
 use lib.Dec.{leb}
 use lib.IntN.{ℤ, pos, _+ℤ_}
 use Rattle.book.specs.declared.Segment.{Segment}
+use Rattle.book.specs.declared.Order.{Order}
 use Rattle.book.specs.Rules.{priceOn}
+use Rattle.supply.specs.Meets.{mostOf}
 use Rattle.divisions.specs.Award.{Priced}
 
 abbrev pub starts : List Segment → ℕ
@@ -25,9 +27,9 @@ endsThen (s ∷ c) es = endsThen c (s .end .0 ∷ es)
 abbrev pub endsInOrder : List Segment → List ℕ
 endsInOrder c = endsThen c []
 
--- the starts add up to at most the demand, and the ends to at least it
-unfoldable pub fits : ℕ → List Segment → Bool
-fits demand c = leb (starts c) demand && leb demand (ends c)
+-- the starts add up to no more than the order takes, and the ends to at least the demand
+unfoldable pub fits : Order → List Segment → Bool
+fits order c = leb (starts c) (mostOf order) && leb (order .demand .0) (ends c)
 
 -- how much a segment can take over its start
 unfoldable pub width : Segment → ℕ
@@ -64,9 +66,9 @@ costWith (s ∷ c) [] = pos 0
 costWith (s ∷ c) (x ∷ xs) = priceOn s (s .start .0 + x) +ℤ costWith c xs
 
 -- what the demand leaves over the starts, given out
-abbrev pub extrasOf : ℕ → List Segment → List ℕ
-extrasOf demand c = extras (demand - starts c) c
+abbrev pub extrasOf : Order → List Segment → List ℕ
+extrasOf order c = extras (order .demand .0 - starts c) c
 
 -- the quantities of a choice, in book order, and their cost
-unfoldable pub filled : ℕ → List Segment → Priced
-filled demand c = record { cost = costWith c (extrasOf demand c); quantities = reverse (placed c (extrasOf demand c)) }
+unfoldable pub filled : Order → List Segment → Priced
+filled order c = record { cost = costWith c (extrasOf order c); quantities = reverse (placed c (extrasOf order c)) }

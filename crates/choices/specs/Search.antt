@@ -1,9 +1,9 @@
 -- The search through all choices: for each bidder in turn its segments from the last to segment 0, and the best of what fits.
-use Prim.Native.Nat.{ℕ}
 use mathlib.Core.Bool.{cond}
 use mathlib.Core.List.{List, [], _∷_}
 use mathlib.Core.Option.{Option, none}
 use Rattle.book.specs.declared.Segment.{Segment}
+use Rattle.book.specs.declared.Order.{Order}
 use Rattle.divisions.specs.Award.{Priced, pick}
 use Rattle.choices.specs.Choice.{fits, filled}
 
@@ -13,14 +13,14 @@ each f [] o = o
 each f (x ∷ xs) o = f x (each f xs o)
 
 -- a complete choice
-unfoldable pub leaf : ℕ → List Segment → Option Priced → Option Priced
-leaf demand c best = cond (fits demand c) (pick best (filled demand c)) best
+unfoldable pub leaf : Order → List Segment → Option Priced → Option Priced
+leaf order c best = cond (fits order c) (pick best (filled order c)) best
 
 -- the choice so far, with a segment for each of the bidders left
-unfoldable pub search : ℕ → List (List Segment) → List Segment → Option Priced → Option Priced
-search demand [] c best = leaf demand c best
-search demand (ss ∷ supplies) c best = each (λ s. search demand supplies (s ∷ c)) ss best
+unfoldable pub search : Order → List (List Segment) → List Segment → Option Priced → Option Priced
+search order [] c best = leaf order c best
+search order (ss ∷ supplies) c best = each (λ s. search order supplies (s ∷ c)) ss best
 
 -- from no choice and no division
-abbrev pub searched : ℕ → List (List Segment) → Option Priced
-searched demand supplies = search demand supplies [] none
+abbrev pub searched : Order → List (List Segment) → Option Priced
+searched order supplies = search order supplies [] none

@@ -3,6 +3,7 @@
 ghost use Prim.Native.Nat.{_+_, _≤_};
 use book::Bid;
 use book::Book;
+use book::Order;
 use book::Segment;
 use money::Blanks;
 use money::Cents;
@@ -140,7 +141,9 @@ pub fn record(book: SmallBook) -> Book {
     let b = record_bid(second);
     let c = record_bid(third);
     Book {
-        demand: Blanks(book.demand),
+        order: Order {
+            demand: Blanks(book.demand),
+        },
         count: book.count,
         bids: [a, b, c, a, b, c, a, b],
     }

@@ -49,11 +49,11 @@ module _ (table : TableEntries) (b : BookEntries) where
 abbrev awarded : Book → MaybeDivision → List Row → Clearing
 awarded book best rows = record {
   verdict = Accepted;
-  award = record { demand = book .demand; total = best .cost; count = book .count; rows = rows };
+  award = record { demand = book .order .demand; total = best .cost; count = book .count; rows = rows };
 }
 
 -- From the search's answer for the record of an accepted book: that there is no division, or the award.
-pub clear-none : (table : TableEntries) (book : Book) (best : MaybeDivision) → found (book .count) best ≡ awardOf (book .demand .0) (suppliesOf (bookEntries book .bids))
+pub clear-none : (table : TableEntries) (book : Book) (best : MaybeDivision) → found (book .count) best ≡ awardOf (book .order) (suppliesOf (bookEntries book .bids))
     → bookVerdict (bookEntries book) ≡ Accepted → best .found ≡ false → refusedClearing (Refused NotCovered 0) ≡ clearSampled table (bookEntries book)
 clear-none table book best searched accepted h = sym (no-division table (bookEntries book) accepted (award-none book best searched h))
 

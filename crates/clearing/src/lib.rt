@@ -61,7 +61,7 @@ pub fn clear_sampled(table: Table, book: Book) -> Clearing
     if !best.found {
         return refused(Verdict::Refused(Rule::NotCovered, 0));
     }
-    let demand = book.demand;
+    let demand = book.order.demand;
     let total = best.cost;
     let count = book.count;
     let rows = rows(table, book, best);

@@ -7,8 +7,10 @@ use lib.ListN.{length, getD, drop}
 use lib.Seq.{drop-cons}
 use Rattle.lists.proofs.Tests.{same-or-not}
 use Rattle.book.specs.declared.Segment.{Segment}
+use Rattle.book.specs.declared.Order.{Order}
 use Rattle.supply.specs.Supply.{segment0}
 use Rattle.supply.specs.Allocation.{bought}
+use Rattle.supply.specs.Meets.{mostOf}
 use Rattle.supply.specs.Sound.{SoundSegment}
 use Rattle.choices.specs.Choice.{width, placed}
 use Rattle.choices.specs.Chosen.{Chosen}
@@ -35,21 +37,21 @@ has-all : {table : List ℕ} {at b x y : ℕ} (n : ℕ) → Has (classCount n) t
 has-all zero h = record { class = h .class; within = omega (arith, h .within); admits = h .admits }
 has-all (suc n) h = h
 
-pub covers-wider : {demand : ℕ} {prices : Prices} {before after : List ℕ} {at : ℕ} {supplies : List (List Segment)} → Wider before after
-    → Covers demand prices before at supplies → Covers demand prices after at supplies
+pub covers-wider : {order : Order} {prices : Prices} {before after : List ℕ} {at : ℕ} {supplies : List (List Segment)} → Wider before after
+    → Covers order prices before at supplies → Covers order prices after at supplies
 covers-wider w covers = record { has = λ e ys chosen fit. has-wider w (covers .has e ys chosen fit) }
 
--- A class with a segment more: nothing where it is empty, or is above the demand.
-module _ (demand at : ℕ) (class more : Sums) where
-  pub class-empty : (table : List ℕ) → Graded table → class .high .0 ≡ 0 → ClassExtended demand at class more table table
+-- A class with a segment more: nothing where it is empty, or is above what the order takes.
+module _ (order : Order) (at : ℕ) (class more : Sums) where
+  pub class-empty : (table : List ℕ) → Graded table → class .high .0 ≡ 0 → ClassExtended order at class more table table
   class-empty table graded e =
       record { graded = graded; wider = same-wide table; grown = λ b x y h r low high fit. absurd (omega (arith, h .high)) }
 
-  pub class-above : (table : List ℕ) → Graded table → demand < class .low .0 + more .low .0 → ClassExtended demand at class more table table
+  pub class-above : (table : List ℕ) → Graded table → mostOf order < class .low .0 + more .low .0 → ClassExtended order at class more table table
   class-above table graded above =
       record { graded = graded; wider = same-wide table; grown = λ b x y h r low high fit. absurd (omega (arith, h .low)) }
 
-  pub class-added : {before after : List ℕ} → Added at (sumsWith class more) before after → ClassExtended demand at class more before after
+  pub class-added : {before after : List ℕ} → Added at (sumsWith class more) before after → ClassExtended order at class more before after
   class-added added = record {
     graded = added .graded;
     wider = added .wider;
@@ -57,16 +59,16 @@ module _ (demand at : ℕ) (class more : Sums) where
   }
 
 -- All 32 classes, one after the other.
-module _ (demand at : ℕ) (more : Sums) where
-  pub classes-none : (table : List ℕ) → Graded table → ExtendedBy demand at more 0 table table
+module _ (order : Order) (at : ℕ) (more : Sums) where
+  pub classes-none : (table : List ℕ) → Graded table → ExtendedBy order at more 0 table table
   classes-none table graded =
       record { graded = graded; wider = same-wide table; grown = λ b x y h r low high fit. absurd (omega (arith, h .within)) }
 
-  pub classes-next : {before table after : List ℕ} (i : ℕ) → ExtendedBy demand at more i before table
-      → ClassExtended demand at (classAt table (32 * (at + 1) + i)) more table after → ExtendedBy demand at more (i + 1) before after
+  pub classes-next : {before table after : List ℕ} (i : ℕ) → ExtendedBy order at more i before table
+      → ClassExtended order at (classAt table (32 * (at + 1) + i)) more table after → ExtendedBy order at more (i + 1) before after
   classes-next {before} {table} {after} i so-far next = record { graded = next .graded; wider = wide-then (so-far .wider) (next .wider); grown = grown }
     where
-      grown : (b x y : ℕ) → Has (i + 1) before (at + 1) b x y → Grown demand at more after b x y
+      grown : (b x y : ℕ) → Has (i + 1) before (at + 1) b x y → Grown order at more after b x y
       grown b x y h r low high fit = same-or-not (h .class) i this earlier
         where
           this : h .class ≡ i → Has 32 after at (r + b) (more .first + x) (more .second + y)
@@ -80,48 +82,48 @@ module _ (demand at : ℕ) (more : Sums) where
               has-wider (next .wider) (so-far .grown b x y (record { class = h .class; within = within; admits = h .admits }) r low high fit)
 
 -- The segments of a bid, one after the other.
-module _ (demand at : ℕ) (prices : Prices) (supplies : List (List Segment)) where
+module _ (order : Order) (at : ℕ) (prices : Prices) (supplies : List (List Segment)) where
   abbrev HasFor : List ℕ → List Segment → List ℕ → Type 0
-  HasFor table e ys = Has 32 table at (bought (placed e ys)) (charges demand (prices .first .0) e) (charges demand (prices .second .0) e)
+  HasFor table e ys = Has 32 table at (bought (placed e ys)) (charges order (prices .first .0) e) (charges order (prices .second .0) e)
 
-  covers-none : (table : List ℕ) → Covers demand prices table at ([] ∷ supplies)
+  covers-none : (table : List ℕ) → Covers order prices table at ([] ∷ supplies)
   covers-none table = record { has = has }
     where
-      has : (e : List Segment) (ys : List ℕ) → Chosen ([] ∷ supplies) e ys → bought (placed e ys) ≤ demand → HasFor table e ys
+      has : (e : List Segment) (ys : List ℕ) → Chosen ([] ∷ supplies) e ys → bought (placed e ys) ≤ mostOf order → HasFor table e ys
       has (s ∷ e) (y ∷ ys) (m, l, rest) fit = absurd (List·Memᴰ·not-nil m)
 
-  covers-more : {table after : List ℕ} (s : Segment) (ss : List Segment) → s .start .0 ≤ s .end .0 → Covers demand prices table (at + 1) supplies
-      → Covers demand prices table at (ss ∷ supplies) → ExtendedBy demand at (sumsOn demand prices s) 32 table after
-      → Covers demand prices after at ((s ∷ ss) ∷ supplies)
+  covers-more : {table after : List ℕ} (s : Segment) (ss : List Segment) → s .start .0 ≤ s .end .0 → Covers order prices table (at + 1) supplies
+      → Covers order prices table at (ss ∷ supplies) → ExtendedBy order at (sumsOn order prices s) 32 table after
+      → Covers order prices after at ((s ∷ ss) ∷ supplies)
   unfolding bought width
-  covers-more {table} {after} s ss order others so-far next = record { has = has }
+  covers-more {table} {after} s ss rising others so-far next = record { has = has }
     where
-      has : (e : List Segment) (ys : List ℕ) → Chosen ((s ∷ ss) ∷ supplies) e ys → bought (placed e ys) ≤ demand → HasFor after e ys
+      has : (e : List Segment) (ys : List ℕ) → Chosen ((s ∷ ss) ∷ supplies) e ys → bought (placed e ys) ≤ mostOf order → HasFor after e ys
       has (t ∷ e) (y ∷ ys) (here p, l, rest) fit =
           let left = has-all (length supplies) (others .has e ys rest (omega arith)) in
           let within : y ≤ width s = rw p at l in
-          let fits : bought (placed (s ∷ e) (y ∷ ys)) ≤ demand = rw p at fit in
+          let fits : bought (placed (s ∷ e) (y ∷ ys)) ≤ mostOf order = rw p at fit in
           rw p (next .grown _ _ _ left (s .start .0 + y) (omega arith) (omega arith) fits)
       has (t ∷ e) (y ∷ ys) (there m, l, rest) fit = has-wider (next .wider) (so-far .has (t ∷ e) (y ∷ ys) (m, l, rest) fit)
 
-module _ (demand at : ℕ) (prices : Prices) where
+module _ (order : Order) (at : ℕ) (prices : Prices) where
   segments-more : {before table after : List ℕ} (s : Segment) (ss : List Segment) → s .start .0 ≤ s .end .0
-      → ExtendedByBid demand at prices ss before table → ExtendedBy demand at (sumsOn demand prices s) 32 table after
-      → ExtendedByBid demand at prices (s ∷ ss) before after
-  segments-more s ss order so-far next = record {
+      → ExtendedByBid order at prices ss before table → ExtendedBy order at (sumsOn order prices s) 32 table after
+      → ExtendedByBid order at prices (s ∷ ss) before after
+  segments-more s ss rising so-far next = record {
     graded = next .graded;
     wider = wide-then (so-far .wider) (next .wider);
     covers = λ supplies others.
-        covers-more demand at prices supplies s ss order (covers-wider (so-far .wider) others) (so-far .covers supplies others) next;
+        covers-more order at prices supplies s ss rising (covers-wider (so-far .wider) others) (so-far .covers supplies others) next;
   }
 
-  pub segments-none : (table : List ℕ) → Graded table → ExtendedByBid demand at prices [] table table
+  pub segments-none : (table : List ℕ) → Graded table → ExtendedByBid order at prices [] table table
   segments-none table graded =
-      record { graded = graded; wider = same-wide table; covers = λ supplies others. covers-none demand at prices supplies table }
+      record { graded = graded; wider = same-wide table; covers = λ supplies others. covers-none order at prices supplies table }
 
   -- the one before those that are taken
   pub segments-next : {before table after : List ℕ} (supply : List Segment) (j k : ℕ) → j ≡ suc k → k < length supply
-      → SoundSegment (getD supply k segment0) → ExtendedByBid demand at prices (drop j supply) before table
-      → ExtendedBy demand at (sumsOn demand prices (getD supply k segment0)) 32 table after → ExtendedByBid demand at prices (drop k supply) before after
+      → SoundSegment (getD supply k segment0) → ExtendedByBid order at prices (drop j supply) before table
+      → ExtendedBy order at (sumsOn order prices (getD supply k segment0)) 32 table after → ExtendedByBid order at prices (drop k supply) before after
   segments-next supply j k e h sound so-far next =
       rw (drop-cons supply k segment0 h) (segments-more (getD supply k segment0) (drop (suc k) supply) (sound .order) (rw e at so-far) next)

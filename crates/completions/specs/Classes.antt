@@ -5,11 +5,13 @@ use mathlib.Core.Path.{_≡_}
 use lib.ListN.{getD, drop, length}
 use Rattle.lists.specs.All.{All}
 use Rattle.book.specs.declared.Segment.{Segment}
+use Rattle.book.specs.declared.Order.{Order}
 use Rattle.book.specs.declared.Book.{Book}
 use Rattle.book.specs.Entries.{bookEntries}
 use Rattle.book.specs.Accepted.{AcceptedBid}
 use Rattle.supply.specs.Supply.{suppliesOf}
 use Rattle.supply.specs.Allocation.{bought}
+use Rattle.supply.specs.Meets.{mostOf}
 use Rattle.choices.specs.Choice.{placed}
 use Rattle.choices.specs.Chosen.{Chosen}
 use Rattle.charges.specs.declared.Prices.{Prices}
@@ -44,10 +46,10 @@ abbrev pub classCount : ℕ → ℕ
 classCount zero = 1
 classCount (suc left) = 32
 
--- every way to complete a choice within the demand, with these supply functions for the bidders from `at` on, is of some class
-pub record Covers (demand : ℕ) (prices : Prices) (table : List ℕ) (at : ℕ) (supplies : List (List Segment)) : Type 0 where
-  pub has : (e : List Segment) (ys : List ℕ) → Chosen supplies e ys → bought (placed e ys) ≤ demand
-      → Has (classCount (length supplies)) table at (bought (placed e ys)) (charges demand (prices .first .0) e) (charges demand (prices .second .0) e)
+-- every way to complete a choice within what the order takes, with these supply functions for the bidders from `at` on, is of some class
+pub record Covers (order : Order) (prices : Prices) (table : List ℕ) (at : ℕ) (supplies : List (List Segment)) : Type 0 where
+  pub has : (e : List Segment) (ys : List ℕ) → Chosen supplies e ys → bought (placed e ys) ≤ mostOf order
+      → Has (classCount (length supplies)) table at (bought (placed e ys)) (charges order (prices .first .0) e) (charges order (prices .second .0) e)
 
 -- how large the numbers of a table are: those of a class for the bidders from `at` on are over the rest of eight
 pub record Graded (table : List ℕ) : Type 0 where
@@ -63,4 +65,4 @@ pub record Surveyable (table : List ℕ) (book : Book) (prices : Prices) : Type 
 -- what it does: each table of classes covers the bidders from there on
 pub record Surveyed (book : Book) (prices : Prices) (table : List ℕ) : Type 0 where
   pub graded : Graded table
-  pub covers : (at : ℕ) → at ≤ book .count → Covers (book .demand .0) prices table at (drop at (suppliesOf (bookEntries book .bids)))
+  pub covers : (at : ℕ) → at ≤ book .count → Covers (book .order) prices table at (drop at (suppliesOf (bookEntries book .bids)))

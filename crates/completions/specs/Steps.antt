@@ -5,9 +5,11 @@ use mathlib.Core.List.{List, _∷_}
 use mathlib.Core.Path.{_≡_}
 use lib.Dec.{eqb}
 use Rattle.book.specs.declared.Segment.{Segment}
+use Rattle.book.specs.declared.Order.{Order}
 use Rattle.book.specs.declared.Bid.{Bid}
 use Rattle.book.specs.Entries.{bidEntries}
 use Rattle.book.specs.Accepted.{AcceptedBid}
+use Rattle.supply.specs.Meets.{mostOf}
 use Rattle.charges.specs.declared.Prices.{Prices}
 use Rattle.charges.specs.declared.Sums.{Sums}
 use Rattle.charges.specs.Charge.{million}
@@ -56,22 +58,22 @@ pub record ClassExtendable (table : List ℕ) (at : ℕ) (class more : Sums) : T
   pub segment : Extendable table at more
   pub upTo : (left : ℕ) → at + 1 + left ≡ 8 → UpTo left class
 
--- so many blanks with these charges, and any quantity on the segment besides, are of a class where they are within the demand
-abbrev pub Grown : ℕ → ℕ → Sums → List ℕ → ℕ → ℕ → ℕ → Type 0
-Grown demand at more table blanks x y =
-    (r : ℕ) → more .low .0 ≤ r → r ≤ more .high .0 → r + blanks ≤ demand → Has 32 table at (r + blanks) (more .first + x) (more .second + y)
+-- so many blanks with these charges, and any quantity on the segment besides, are of a class where the order takes so many
+abbrev pub Grown : Order → ℕ → Sums → List ℕ → ℕ → ℕ → ℕ → Type 0
+Grown order at more table blanks x y =
+    (r : ℕ) → more .low .0 ≤ r → r ≤ more .high .0 → r + blanks ≤ mostOf order → Has 32 table at (r + blanks) (more .first + x) (more .second + y)
 
 -- what `with_class` does: so are those of the class
-pub record ClassExtended (demand at : ℕ) (class more : Sums) (before after : List ℕ) : Type 0 where
+pub record ClassExtended (order : Order) (at : ℕ) (class more : Sums) (before after : List ℕ) : Type 0 where
   pub graded : Graded after
   pub wider : Wider before after
-  pub grown : (blanks x y : ℕ) → Admits class blanks x y → Grown demand at more after blanks x y
+  pub grown : (blanks x y : ℕ) → Admits class blanks x y → Grown order at more after blanks x y
 
 -- what `with_segment` does: so are those of each of the 32 classes of the bidders after `at`; here, of the first `many`
-pub record ExtendedBy (demand at : ℕ) (more : Sums) (many : ℕ) (before after : List ℕ) : Type 0 where
+pub record ExtendedBy (order : Order) (at : ℕ) (more : Sums) (many : ℕ) (before after : List ℕ) : Type 0 where
   pub graded : Graded after
   pub wider : Wider before after
-  pub grown : (blanks x y : ℕ) → Has many before (at + 1) blanks x y → Grown demand at more after blanks x y
+  pub grown : (blanks x y : ℕ) → Has many before (at + 1) blanks x y → Grown order at more after blanks x y
 
 -- what `with_bid` asks
 pub record BidExtendable (table : List ℕ) (at : ℕ) (bid : Bid) (prices : Prices) : Type 0 where
@@ -81,7 +83,7 @@ pub record BidExtendable (table : List ℕ) (at : ℕ) (bid : Bid) (prices : Pri
   pub capped : Capped prices
 
 -- what it does: the table covers with bidder `at`, by its supply function, what it covered after `at`
-pub record ExtendedByBid (demand at : ℕ) (prices : Prices) (supply : List Segment) (before after : List ℕ) : Type 0 where
+pub record ExtendedByBid (order : Order) (at : ℕ) (prices : Prices) (supply : List Segment) (before after : List ℕ) : Type 0 where
   pub graded : Graded after
   pub wider : Wider before after
-  pub covers : (supplies : List (List Segment)) → Covers demand prices before (at + 1) supplies → Covers demand prices after at (supply ∷ supplies)
+  pub covers : (supplies : List (List Segment)) → Covers order prices before (at + 1) supplies → Covers order prices after at (supply ∷ supplies)

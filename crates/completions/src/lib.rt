@@ -11,6 +11,7 @@ ghost use Rattle.completions.specs.Classes.{classAt, classCount, Surveya
 ghost use Rattle.completions.specs.Steps.{joined, Put, Addable, Added, ClassExtendable, ClassExtended, Extendable, ExtendedBy, BidExtendable, ExtendedByBid};
 use book::Bid;
 use book::Book;
+use book::Order;
 use charges::Prices;
 use charges::Sums;
 use money::Blanks;
@@ -85,52 +86,46 @@ fn add_class(table: &mut [u64; 1152], at: usize, x: Sums, most: u64)
     put_class(table, k, joined(here, x));
 }
 
-// A class of the bidders after `at`, with one segment more. What passes the demand is left out.
-fn with_class(
-    table: &mut [u64; 1152],
-    at: usize,
-    class: Sums,
-    more: Sums,
-    demand: Blanks,
-    most: u64,
-)
+// A class of the bidders after `at`, with one segment more. What passes the order is left out.
+fn with_class(table: &mut [u64; 1152], at: usize, class: Sums, more: Sums, order: Order, most: u64)
     requires { ⌜ ClassExtendable (now table) at class more ⌝ }
-    ensures { λ _. ⌜ ClassExtended (demand .0) at class more (now (table .entry)) (now (table .exit)) ⌝ }
+    ensures { λ _. ⌜ ClassExtended order at class more (now (table .entry)) (now (table .exit)) ⌝ }
 {
     if class.high.0 == 0 {
         return;
     }
     let next = charges::plus(class, more);
-    if demand.0 < next.low.0 {
+    let low = next.low;
+    if supply::passes(order, low) {
         return;
     }
     add_class(table, at, next, most);
 }
 
 // The same with each of their classes.
-fn with_segment(table: &mut [u64; 1152], at: usize, more: Sums, demand: Blanks, most: u64)
+fn with_segment(table: &mut [u64; 1152], at: usize, more: Sums, order: Order, most: u64)
     requires { ⌜ Extendable (now table) at more ⌝ }
-    ensures { λ _. ⌜ ExtendedBy (demand .0) at more 32 (now (table .entry)) (now (table .exit)) ⌝ }
+    ensures { λ _. ⌜ ExtendedBy order at more 32 (now (table .entry)) (now (table .exit)) ⌝ }
 {
     let mut i: usize = 0;
     while i < 32 {
         let class = class_at(table, 32 * (at + 1) + i);
-        with_class(table, at, class, more, demand, most);
+        with_class(table, at, class, more, order, most);
         i += 1;
     }
 }
 
 // And with each segment of a bid.
-fn with_bid(table: &mut [u64; 1152], at: usize, bid: Bid, demand: Blanks, prices: Prices, most: u64)
+fn with_bid(table: &mut [u64; 1152], at: usize, bid: Bid, order: Order, prices: Prices, most: u64)
     requires { ⌜ BidExtendable (now table) at bid prices ⌝ }
-    ensures { λ _. ⌜ ExtendedByBid (demand .0) at prices (supplyOf (bidEntries bid)) (now (table .entry)) (now (table .exit)) ⌝ }
+    ensures { λ _. ⌜ ExtendedByBid order at prices (supplyOf (bidEntries bid)) (now (table .entry)) (now (table .exit)) ⌝ }
 {
     let mut j = bid.count + 1;
     while 0 < j {
         j -= 1;
         let s = supply::segment_of(bid, j);
-        let more = charges::charged(s, demand, prices);
-        with_segment(table, at, more, demand, most);
+        let more = charges::charged(s, order, prices);
+        with_segment(table, at, more, order, most);
     }
 }
 
@@ -139,7 +134,7 @@ pub fn survey(table: &mut [u64; 1152], book: Book, prices: Prices)
     requires { ⌜ Surveyable (now table) book prices ⌝ }
     ensures { λ _. ⌜ Surveyed book prices (now (table .exit)) ⌝ }
 {
-    let demand = book.demand;
+    let order = book.order;
     let mut most: u64 = 0;
     let mut i = book.count;
     let nothing = Sums {
@@ -153,8 +148,8 @@ pub fn survey(table: &mut [u64; 1152], book: Book, prices: Prices)
         i -= 1;
         let bid = book.bids[i];
         let last = supply::segment_of(bid, bid.count);
-        most = charges::smaller(most % 4294967296 + last.end.0 % 4294967296, demand.0);
-        with_bid(table, i, bid, demand, prices, most);
+        most = charges::smaller(most % 4294967296 + last.end.0 % 4294967296, order.demand.0);
+        with_bid(table, i, bid, order, prices, most);
     }
 }
 

@@ -8,6 +8,7 @@ use mathlib.Core.Path.{_≡_, refl, sym, ap, _∙_, subst}
 use lib.ListN.{length}
 use Rattle.lists.proofs.Members.{in-map, map-in}
 use Rattle.book.specs.declared.Segment.{Segment}
+use Rattle.book.specs.declared.Order.{Order}
 use Rattle.supply.specs.Allocation.{costOf}
 use Rattle.divisions.specs.Division.{Allocation, Division}
 use Rattle.divisions.specs.Listing.{divisions}
@@ -19,32 +20,32 @@ use Rattle.divisions.proofs.IsBest.{IsBest, best-iff, best-unique, best
 use Rattle.divisions.proofs.Listed.{listed-iff}
 
 -- a division with its cost
-pub record PricedDivision (demand : ℕ) (supplies : List (List Segment)) (d : Priced) : Type 0 where
-  pub division : Division demand supplies (d .quantities)
+pub record PricedDivision (order : Order) (supplies : List (List Segment)) (d : Priced) : Type 0 where
+  pub division : Division order supplies (d .quantities)
   pub cost : d .cost ≡ costOf supplies (d .quantities)
 
-module _ (demand : ℕ) (supplies : List (List Segment)) where
-  pub award-best : IsBest (PricedDivision demand supplies) (awardOf demand supplies)
+module _ (order : Order) (supplies : List (List Segment)) where
+  pub award-best : IsBest (PricedDivision order supplies) (awardOf order supplies)
   unfolding awardOf
   award-best =
-      best-iff (PricedDivision demand supplies) (λ d. In d (map (priced supplies) (divisions demand supplies))) (awardOf demand supplies) to from
-      (best-listed (map (priced supplies) (divisions demand supplies)))
+      best-iff (PricedDivision order supplies) (λ d. In d (map (priced supplies) (divisions order supplies))) (awardOf order supplies) to from
+      (best-listed (map (priced supplies) (divisions order supplies)))
     where
-      to : (d : Priced) → In d (map (priced supplies) (divisions demand supplies)) → PricedDivision demand supplies d
+      to : (d : Priced) → In d (map (priced supplies) (divisions order supplies)) → PricedDivision order supplies d
       to d h =
-          let (rs, m, e) = map-in (priced supplies) (divisions demand supplies) d h in
-          subst (PricedDivision demand supplies) (sym e) (record { division = listed-iff demand supplies rs .0 m; cost = refl })
+          let (rs, m, e) = map-in (priced supplies) (divisions order supplies) d h in
+          subst (PricedDivision order supplies) (sym e) (record { division = listed-iff order supplies rs .0 m; cost = refl })
 
-      from : (d : Priced) → PricedDivision demand supplies d → In d (map (priced supplies) (divisions demand supplies))
+      from : (d : Priced) → PricedDivision order supplies d → In d (map (priced supplies) (divisions order supplies))
       from d p =
           let e : d ≡ priced supplies (d .quantities) = λ i. record { cost = p .cost i; quantities = d .quantities } in
-          Memᴰ·cast e (in-map (priced supplies) (divisions demand supplies) (d .quantities) (listed-iff demand supplies (d .quantities) .1 (p .division)))
+          Memᴰ·cast e (in-map (priced supplies) (divisions order supplies) (d .quantities) (listed-iff order supplies (d .quantities) .1 (p .division)))
 
   -- no award exactly when there is no division
-  pub no-award-iff : (awardOf demand supplies ≡ none) ↔ ((rs : List ℕ) → Division demand supplies rs → ⊥)
+  pub no-award-iff : (awardOf order supplies ≡ none) ↔ ((rs : List ℕ) → Division order supplies rs → ⊥)
   no-award-iff = (
-    λ e rs d. subst (IsBest (PricedDivision demand supplies)) e award-best (priced supplies rs) (record { division = d; cost = refl }),
-    λ f. best-unique (PricedDivision demand supplies) (awardOf demand supplies) none award-best (λ d p. f (d .quantities) (p .division)),
+    λ e rs d. subst (IsBest (PricedDivision order supplies)) e award-best (priced supplies rs) (record { division = d; cost = refl }),
+    λ f. best-unique (PricedDivision order supplies) (awardOf order supplies) none award-best (λ d p. f (d .quantities) (p .division)),
   )
 
 -- a division has a quantity for each bidder
@@ -52,8 +53,8 @@ pub as-many : (supplies : List (List Segment)) (rs : List ℕ) → Allocation su
 as-many [] [] a = refl
 as-many (ss ∷ supplies) (r ∷ rs) a = ap suc (as-many supplies rs (a .1))
 
-module _ (demand : ℕ) (supplies : List (List Segment)) (award : Priced) where
-  one-length : (rs : List ℕ) → Division demand supplies rs → Division demand supplies (award .quantities) → length rs ≡ length (award .quantities)
+module _ (order : Order) (supplies : List (List Segment)) (award : Priced) where
+  one-length : (rs : List ℕ) → Division order supplies rs → Division order supplies (award .quantities) → length rs ≡ length (award .quantities)
   one-length rs d a = as-many supplies rs (d .allocation) ∙ sym (as-many supplies (award .quantities) (a .allocation))
 
   worse : (rs : List ℕ) → length rs ≡ length (award .quantities) → better award (priced supplies rs) ≡ true → Worse supplies rs award
@@ -69,9 +70,9 @@ module _ (demand : ℕ) (supplies : List (List Segment)) (award : Priced) where
 
   -- the award is a division, and every other division costs more, or costs the same and gives less to the first bidder at whom
   -- the two differ
-  pub award-is : awardOf demand supplies ≡ some award → IsAward demand supplies award
+  pub award-is : awardOf order supplies ≡ some award → IsAward order supplies award
   award-is e =
-      let (p, rest) = subst (IsBest (PricedDivision demand supplies)) e (award-best demand supplies) in
+      let (p, rest) = subst (IsBest (PricedDivision order supplies)) e (award-best order supplies) in
       record {
         division = p .division;
         cost = p .cost;
@@ -79,12 +80,12 @@ module _ (demand : ℕ) (supplies : List (List Segment)) (award : Priced) where
       }
 
   -- and nothing else is: these words fix it
-  pub only-award : IsAward demand supplies award → awardOf demand supplies ≡ some award
+  pub only-award : IsAward order supplies award → awardOf order supplies ≡ some award
   only-award a =
-      best-unique (PricedDivision demand supplies) (awardOf demand supplies) (some award) (award-best demand supplies)
+      best-unique (PricedDivision order supplies) (awardOf order supplies) (some award) (award-best order supplies)
       (record { division = a .division; cost = a .cost }, λ d p. go d p (a .others (d .quantities) (p .division)))
     where
-      go : (d : Priced) → PricedDivision demand supplies d → (d .quantities ≡ award .quantities) ⊎ Worse supplies (d .quantities) award
+      go : (d : Priced) → PricedDivision order supplies d → (d .quantities ≡ award .quantities) ⊎ Worse supplies (d .quantities) award
           → (d ≡ award) ⊎ (better award d ≡ true)
       go d p (inl e) =
           let cost : d .cost ≡ award .cost = p .cost ∙ ap (costOf supplies) e ∙ sym (a .cost) in

@@ -18,9 +18,9 @@ pub stored-keep : (b : BookEntries) → All NoCarriage (b .bids) → ByCurves b
 unfolding awardOfBook
 stored-keep b none =
     let same : suppliesOf (b .bids) ≡ curvesOf (b .bids) = supplies-curves (b .bids) none in
-    let divides : List ℕ → List (List Segment) → Type 0 = λ rs supplies. Division (b .demand) supplies rs in
+    let divides : List ℕ → List (List Segment) → Type 0 = λ rs supplies. Division (b .order) supplies rs in
     record {
       divisions = λ rs. (λ d. subst (divides rs) same d, λ d. subst (divides rs) (sym same) d);
       costs = λ rs. ap (λ (supplies : List (List Segment)). costOf supplies rs) same;
-      award = ap (awardOf (b .demand)) same;
+      award = ap (awardOf (b .order)) same;
     }

@@ -4,13 +4,14 @@ use native.Mathlib.Omega.{arith}
 use mathlib.Core.List.{List, [], _∷_, map, List·Memᴰ as In, List·Memᴰ·head as here, List·Memᴰ·tail as there, List·Memᴰ·eq-of-singleton}
 use mathlib.Core.Logic.{_↔_, ⊎-elim}
 use mathlib.Core.Path.{_≡_, refl, sym, subst}
-use borrow.Author.Tests.{eqb-true, eq-eqb}
-use lib.Dec.{eqb}
 use Rattle.lists.specs.Those.{those}
 use Rattle.lists.proofs.Members.{in-map, map-in, in-joined, joined-in, in-those, those-in}
 use Rattle.book.specs.declared.Segment.{Segment}
+use Rattle.book.specs.declared.Order.{Order}
 use Rattle.supply.specs.Supply.{offers}
 use Rattle.supply.specs.Allocation.{bought}
+use Rattle.supply.specs.Meets.{mostOf, meets}
+use Rattle.supply.proofs.Orders.{meets-high}
 use Rattle.divisions.specs.Division.{Allocation, Division}
 use Rattle.divisions.specs.Listing.{downFrom, allocations, divisions}
 use Rattle.divisions.proofs.Signed.{order}
@@ -46,12 +47,12 @@ in-allocation most (ss ∷ supplies) rs h =
     let (qs, n, e) = map-in (λ (qs : List ℕ). r ∷ qs) (allocations most supplies) rs k in
     subst (Allocation (ss ∷ supplies)) (sym e) (those-in (offers ss) (downFrom most) r m .1, in-allocation most supplies qs n)
 
-pub listed-iff : (demand : ℕ) (supplies : List (List Segment)) (rs : List ℕ) → In rs (divisions demand supplies) ↔ Division demand supplies rs
+pub listed-iff : (order : Order) (supplies : List (List Segment)) (rs : List ℕ) → In rs (divisions order supplies) ↔ Division order supplies rs
 unfolding divisions
-listed-iff demand supplies rs = (
-  λ h. let (m, e) = those-in (λ (qs : List ℕ). eqb (bought qs) demand) (allocations demand supplies) rs h in
-      record { allocation = in-allocation demand supplies rs m; meets = eqb-true (bought rs) demand e },
-  λ d. in-those (λ (qs : List ℕ). eqb (bought qs) demand) (allocations demand supplies) rs
-      (allocation-in demand supplies rs (d .allocation) (at-most demand rs (omega (arith, d .meets))))
-      (eq-eqb (bought rs) demand (d .meets)),
+listed-iff order supplies rs = (
+  λ h. let (m, e) = those-in (λ (qs : List ℕ). meets order (bought qs)) (allocations (mostOf order) supplies) rs h in
+      record { allocation = in-allocation (mostOf order) supplies rs m; sum = e },
+  λ d. in-those (λ (qs : List ℕ). meets order (bought qs)) (allocations (mostOf order) supplies) rs
+      (allocation-in (mostOf order) supplies rs (d .allocation) (at-most (mostOf order) rs (meets-high order (bought rs) (d .sum))))
+      (d .sum),
 )

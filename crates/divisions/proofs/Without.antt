@@ -11,8 +11,10 @@ use lib.ListN.{length, getD}
 use Rattle.lists.specs.All.{All}
 use Rattle.lists.proofs.Removed.{removed}
 use Rattle.book.specs.declared.Segment.{Segment}
+use Rattle.book.specs.declared.Order.{Order}
 use Rattle.supply.specs.Supply.{offers, priceAt}
 use Rattle.supply.specs.Allocation.{bought, costOf}
+use Rattle.supply.specs.Meets.{meets}
 use Rattle.divisions.specs.Division.{Allocation}
 use Rattle.divisions.specs.Award.{Priced, givesMore, better, awardOf}
 use Rattle.divisions.proofs.IsBest.{IsBest, best-unique}
@@ -85,7 +87,7 @@ with-without i [] rs h a e = absurd (not-suc-le-zero h)
 with-without zero (ss ∷ supplies) (r ∷ rs) h a e = ap (λ (n : ℕ). n ∷ rs) (sym e)
 with-without (suc i) (ss ∷ supplies) (r ∷ rs) h a e = ap (λ (l : List ℕ). r ∷ l) (with-without i supplies rs (le-of-suc-le-suc h) (a .1) e)
 
-module _ (demand : ℕ) (supplies : List (List Segment)) (nothing : All SellsNothing supplies) (i : ℕ) (bidder : i < length supplies) where
+module _ (order : Order) (supplies : List (List Segment)) (nothing : All SellsNothing supplies) (i : ℕ) (bidder : i < length supplies) where
   abbrev others : List (List Segment)
   others = removed i supplies
 
@@ -93,20 +95,20 @@ module _ (demand : ℕ) (supplies : List (List Segment)) (nothing : All SellsNot
   abbrev back : Priced → Priced
   back d = record { cost = d .cost; quantities = withNothing i (d .quantities) }
 
-  back-division : (d : Priced) → PricedDivision demand others d → PricedDivision demand supplies (back d)
+  back-division : (d : Priced) → PricedDivision order others d → PricedDivision order supplies (back d)
   back-division d p =
       let a = p .division .allocation in
       record {
         division = record {
           allocation = with-allocation i supplies (d .quantities) nothing bidder a;
-          meets = with-total i (d .quantities) ∙ p .division .meets;
+          sum = ap (meets order) (with-total i (d .quantities)) ∙ p .division .sum;
         };
         cost = p .cost ∙ sym (with-cost i supplies (d .quantities) nothing bidder a);
       }
 
-  module _ (award : Priced) (is-award : awardOf demand supplies ≡ some award) (sells-nothing : getD (award .quantities) i 0 ≡ 0) where
-    best : IsBest (PricedDivision demand supplies) (some award)
-    best = subst (IsBest (PricedDivision demand supplies)) is-award (award-best demand supplies)
+  module _ (award : Priced) (is-award : awardOf order supplies ≡ some award) (sells-nothing : getD (award .quantities) i 0 ≡ 0) where
+    best : IsBest (PricedDivision order supplies) (some award)
+    best = subst (IsBest (PricedDivision order supplies)) is-award (award-best order supplies)
 
     abbrev left : Priced
     left = record { cost = award .cost; quantities = removed i (award .quantities) }
@@ -117,18 +119,18 @@ module _ (demand : ℕ) (supplies : List (List Segment)) (nothing : All SellsNot
     left-allocation : Allocation others (left .quantities)
     left-allocation = without-allocation i supplies (award .quantities) (best .0 .division .allocation)
 
-    left-division : PricedDivision demand others left
+    left-division : PricedDivision order others left
     left-division =
         let sold = with-without i supplies (award .quantities) bidder (best .0 .division .allocation) sells-nothing in
         record {
           division = record {
             allocation = left-allocation;
-            meets = sym (with-total i (left .quantities)) ∙ ap bought sold ∙ best .0 .division .meets;
+            sum = ap (meets order) (sym (with-total i (left .quantities)) ∙ ap bought sold) ∙ best .0 .division .sum;
           };
           cost = best .0 .cost ∙ ap (costOf supplies) (sym sold) ∙ with-cost i supplies (left .quantities) nothing bidder left-allocation;
         }
 
-    left-best : (d : Priced) → PricedDivision demand others d → (d ≡ left) ⊎ (better left d ≡ true)
+    left-best : (d : Priced) → PricedDivision order others d → (d ≡ left) ⊎ (better left d ≡ true)
     unfolding better
     left-best d p =
         ⊎-elim
@@ -139,8 +141,8 @@ module _ (demand : ℕ) (supplies : List (List Segment)) (nothing : All SellsNot
         forth : Priced → Priced
         forth x = record { cost = x .cost; quantities = removed i (x .quantities) }
 
-        again : (d : Priced) → PricedDivision demand others d → forth (back d) ≡ d
+        again : (d : Priced) → PricedDivision order others d → forth (back d) ≡ d
         again d p = λ j. record { cost = d .cost; quantities = without-with i supplies (d .quantities) bidder (p .division .allocation) j }
 
-    pub same-award : awardOf demand others ≡ some left
-    same-award = best-unique (PricedDivision demand others) (awardOf demand others) (some left) (award-best demand others) (left-division, left-best)
+    pub same-award : awardOf order others ≡ some left
+    same-award = best-unique (PricedDivision order others) (awardOf order others) (some left) (award-best order others) (left-division, left-best)

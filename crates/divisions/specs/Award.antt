@@ -7,6 +7,7 @@ use lib.Dec.{eqb, ltb}
 use lib.IntN.{ℤ}
 use lib.Signed.{ltZ, leZ}
 use Rattle.book.specs.declared.Segment.{Segment}
+use Rattle.book.specs.declared.Order.{Order}
 use Rattle.book.specs.Entries.{BookEntries}
 use Rattle.supply.specs.Supply.{suppliesOf}
 use Rattle.supply.specs.Allocation.{costOf}
@@ -41,9 +42,9 @@ bestOf [] = none
 bestOf (d ∷ ds) = pick (bestOf ds) d
 
 -- the best of all divisions, or none where there is no division
-unfoldable pub awardOf : ℕ → List (List Segment) → Option Priced
-awardOf demand supplies = bestOf (map (priced supplies) (divisions demand supplies))
+unfoldable pub awardOf : Order → List (List Segment) → Option Priced
+awardOf order supplies = bestOf (map (priced supplies) (divisions order supplies))
 
 -- the award of a book's bids, if they have a division
 unfoldable pub awardOfBook : BookEntries → Option Priced
-awardOfBook b = awardOf (b .demand) (suppliesOf (b .bids))
+awardOfBook b = awardOf (b .order) (suppliesOf (b .bids))

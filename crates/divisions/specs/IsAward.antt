@@ -8,6 +8,7 @@ use mathlib.Core.Path.{_≡_}
 use lib.ListN.{take, getD}
 use lib.Signed.{_<ℤ_}
 use Rattle.book.specs.declared.Segment.{Segment}
+use Rattle.book.specs.declared.Order.{Order}
 use Rattle.supply.specs.Supply.{standsInside}
 use Rattle.supply.specs.Allocation.{costOf}
 use Rattle.divisions.specs.Award.{Priced}
@@ -25,10 +26,10 @@ Worse supplies rs award =
     (award .cost <ℤ costOf supplies rs) ⊎ ((costOf supplies rs ≡ award .cost) × GivesLess rs (award .quantities))
 
 -- the award is a division, at its cost, and every other division is worse
-pub record IsAward (demand : ℕ) (supplies : List (List Segment)) (award : Priced) : Type 0 where
-  pub division : Division demand supplies (award .quantities)
+pub record IsAward (order : Order) (supplies : List (List Segment)) (award : Priced) : Type 0 where
+  pub division : Division order supplies (award .quantities)
   pub cost : award .cost ≡ costOf supplies (award .quantities)
-  pub others : (rs : List ℕ) → Division demand supplies rs → (rs ≡ award .quantities) ⊎ Worse supplies rs award
+  pub others : (rs : List ℕ) → Division order supplies rs → (rs ≡ award .quantities) ⊎ Worse supplies rs award
 
 -- how many bidders stand strictly inside one of their segments
 unfoldable pub insideCount : List (List Segment) → List ℕ → ℕ

@@ -1,12 +1,13 @@
 -- Every division, listed. It is never evaluated; that it has exactly the divisions is the theorem `listed-iff` (proofs/Listed.antt).
 use Prim.Native.Nat.{ℕ, zero, suc}
 use mathlib.Core.List.{List, [], _∷_, map}
-use lib.Dec.{eqb}
 use Rattle.lists.specs.Joined.{joined}
 use Rattle.lists.specs.Those.{those}
 use Rattle.book.specs.declared.Segment.{Segment}
+use Rattle.book.specs.declared.Order.{Order}
 use Rattle.supply.specs.Supply.{offers}
 use Rattle.supply.specs.Allocation.{bought}
+use Rattle.supply.specs.Meets.{mostOf, meets}
 
 -- the numbers from n down to 0
 unfoldable pub downFrom : ℕ → List ℕ
@@ -18,6 +19,6 @@ unfoldable pub allocations : ℕ → List (List Segment) → List (List ℕ)
 allocations most [] = [] ∷ []
 allocations most (ss ∷ supplies) = joined (λ r. map (λ (rs : List ℕ). r ∷ rs) (allocations most supplies)) (those (offers ss) (downFrom most))
 
--- those whose quantities add up to the demand
-unfoldable pub divisions : ℕ → List (List Segment) → List (List ℕ)
-divisions demand supplies = those (λ rs. eqb (bought rs) demand) (allocations demand supplies)
+-- those whose quantities add up to what the order takes
+unfoldable pub divisions : Order → List (List Segment) → List (List ℕ)
+divisions order supplies = those (λ rs. meets order (bought rs)) (allocations (mostOf order) supplies)

@@ -11,6 +11,6 @@ use Rattle.divisions.specs.Division.{Division}
 use Rattle.divisions.specs.Award.{awardOf, awardOfBook}
 
 pub record ByCurves (b : BookEntries) : Type 0 where
-  pub divisions : (rs : List ℕ) → Division (b .demand) (suppliesOf (b .bids)) rs ↔ Division (b .demand) (curvesOf (b .bids)) rs
+  pub divisions : (rs : List ℕ) → Division (b .order) (suppliesOf (b .bids)) rs ↔ Division (b .order) (curvesOf (b .bids)) rs
   pub costs : (rs : List ℕ) → costOf (suppliesOf (b .bids)) rs ≡ costOf (curvesOf (b .bids)) rs
-  pub award : awardOfBook b ≡ awardOf (b .demand) (curvesOf (b .bids))
+  pub award : awardOfBook b ≡ awardOf (b .order) (curvesOf (b .bids))

@@ -47,7 +47,7 @@ module _ (table : TableEntries) (book : Book) (held : length (book .bids) ≡ 8)
   a = clearSampled table b .award
 
   -- its first line, and each row with the total that it shows
-  first-line : (a .demand .0 ≡ b .demand) × (a .count ≡ b .count)
+  first-line : (a .demand .0 ≡ b .order .demand .0) × (a .count ≡ b .count)
   unfolding awardRecord
   first-line =
       let e = cleared table b accepted .answer in

@@ -27,8 +27,8 @@ use Rattle.endtoend.specs.Shown.{ShowsRowsOnly}
 
 one-award : (b : BookEntries) (p q : Priced) → IsAwardOf b p → IsAwardOf b q → p ≡ q
 one-award b p q x y =
-    let e = only-award (b .demand) (suppliesOf (b .bids)) p x in
-    let f = only-award (b .demand) (suppliesOf (b .bids)) q y in
+    let e = only-award (b .order) (suppliesOf (b .bids)) p x in
+    let f = only-award (b .order) (suppliesOf (b .bids)) q y in
     cc
 
 one-total : (b : BookEntries) (x y : Total) → TotalOf b x → TotalOf b y → x ≡ y

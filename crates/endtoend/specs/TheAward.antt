@@ -26,7 +26,7 @@ abbrev pub bidAt : BookEntries → ℕ → BidEntries
 bidAt b i = getD (b .bids) i (record { bidder = 0; carriage = 0; count = 0; segments = [] })
 
 pub record TheAward (table : TableEntries) (b : BookEntries) (a : Award) : Type 0 where
-  pub demand : a .demand .0 ≡ b .demand
+  pub demand : a .demand .0 ≡ b .order .demand .0
   pub count : a .count ≡ b .count
   -- one of the divisions; every other costs more, or costs the same and gives less to the first bidder at whom the two differ
   pub best : IsAwardOf b (awarded a)

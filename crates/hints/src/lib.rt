@@ -8,13 +8,14 @@ ghost use Rattle.charges.specs.Charge.{highest};
 ghost use Rattle.hints.specs.Asked.{HintedBid, HintedBook, HintedBookBy};
 use book::Bid;
 use book::Book;
+use book::Order;
 use book::Segment;
 use comparison::MaybeDivision;
 use money::Blanks;
 use money::CentsPerBlank;
 
 // The number of the segment that is charged least by a price, the later of equals.
-fn favourite(bid: Bid, demand: Blanks, price: CentsPerBlank) -> usize
+fn favourite(bid: Bid, order: Order, price: CentsPerBlank) -> usize
     requires { ⌜ HintedBid bid (price .0) ⌝ }
     ensures { λ r. ⌜ r ≤ bid .count ⌝ }
 {
@@ -24,8 +25,8 @@ fn favourite(bid: Bid, demand: Blanks, price: CentsPerBlank) -> usize
     while 0 < j {
         j -= 1;
         let s = supply::segment_of(bid, j);
-        if s.start.0 <= demand.0 {
-            let here = charges::charge(s, demand, price);
+        if s.start.0 <= order.demand.0 {
+            let here = charges::charge(s, order, price);
             if here < least {
                 least = here;
                 number = j;
@@ -36,9 +37,9 @@ fn favourite(bid: Bid, demand: Blanks, price: CentsPerBlank) -> usize
 }
 
 // What a bidder would sell on a segment by a price.
-fn wanted(s: Segment, demand: Blanks, price: CentsPerBlank) -> u64 {
+fn wanted(s: Segment, order: Order, price: CentsPerBlank) -> u64 {
     if s.unit.0 <= price.0 {
-        return charges::smaller(s.end.0, demand.0);
+        return charges::smaller(s.end.0, order.demand.0);
     }
     s.start.0
 }
@@ -47,13 +48,13 @@ fn wanted(s: Segment, demand: Blanks, price: CentsPerBlank) -> u64 {
 fn sold(book: Book, price: CentsPerBlank) -> u64
     requires { ⌜ HintedBookBy book (price .0) ⌝ }
 {
-    let demand = book.demand;
+    let order = book.order;
     let mut sum: u64 = 0;
     let mut i: usize = 0;
     while i < book.count {
         let bid = book.bids[i];
-        let s = supply::segment_of(bid, favourite(bid, demand, price));
-        sum = sum % 4294967296 + wanted(s, demand, price) % 4294967296;
+        let s = supply::segment_of(bid, favourite(bid, order, price));
+        sum = sum % 4294967296 + wanted(s, order, price) % 4294967296;
         i += 1;
     }
     sum
@@ -69,7 +70,7 @@ pub fn balance(book: Book) -> CentsPerBlank
     let mut high: u64 = 1073741824;
     while low < high {
         let middle = low + (high - low) / 2;
-        if sold(book, CentsPerBlank(middle)) < book.demand.0 {
+        if sold(book, CentsPerBlank(middle)) < book.order.demand.0 {
             low = middle + 1;
         } else {
             high = middle;
@@ -82,12 +83,12 @@ pub fn balance(book: Book) -> CentsPerBlank
 pub fn favourites(book: Book, price: CentsPerBlank) -> [usize; 8]
     requires { ⌜ HintedBookBy book (price .0) ⌝ }
 {
-    let demand = book.demand;
+    let order = book.order;
     let mut numbers: [usize; 8] = [0; 8];
     let mut i: usize = 0;
     while i < book.count {
         let bid = book.bids[i];
-        let number = favourite(bid, demand, price);
+        let number = favourite(bid, order, price);
         numbers[i] = number;
         i += 1;
     }

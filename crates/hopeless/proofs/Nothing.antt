@@ -1,5 +1,6 @@
 -- Where with every class of ways to complete a choice nothing is better than the best so far, the search leaves it as it is. Assumes nothing.
 use Prim.Native.Nat.{ℕ, _+_, _*_, _≤_, _<_}
+use native.Mathlib.Nat.{mul-le-mul-left}
 use native.Mathlib.Omega.{arith}
 use mathlib.Core.Bool.{Bool, true, false, cond, false≢true}
 use mathlib.Core.List.{List, [], _∷_, reverseAux}
@@ -13,6 +14,7 @@ use lib.Seq.{take-take}
 use lib.Signed.{ltZ}
 use Rattle.lists.specs.All.{All}
 use Rattle.book.specs.declared.Segment.{Segment}
+use Rattle.book.specs.declared.Order.{Order}
 use Rattle.book.specs.Entries.{BidEntries}
 use Rattle.book.specs.Accepted.{AcceptedBid}
 use Rattle.supply.specs.Supply.{supplyOf, suppliesOf}
@@ -22,7 +24,7 @@ use Rattle.supply.proofs.Sound.{SoundSupply}
 use Rattle.supply.proofs.Accepted.{sound-supplies}
 use Rattle.divisions.specs.Award.{Priced, givesMore, better}
 use Rattle.divisions.proofs.Order.{better-cost, better-tie}
-use Rattle.divisions.proofs.Signed.{order}
+use Rattle.divisions.proofs.Signed as Signed
 use Rattle.divisions.proofs.IsBest.{NotBetter}
 use Rattle.choices.specs.Choice.{placed, endsInOrder}
 use Rattle.choices.specs.Chosen.{Chosen}
@@ -51,11 +53,11 @@ cheaper-than (pos k) m h = lt-ltb k m h
 cheaper-than (negsuc k) m h = refl
 
 no-dearer-than : (z : ℤ) (m : ℕ) → natAbs z ≤ m → (ltZ z (pos m) ≡ true) ⊎ (z ≡ pos m)
-no-dearer-than (pos k) m h = ⊎-elim (λ l. inl (lt-ltb k m l)) (⊎-elim (λ l. inr (ap pos l)) (λ l. absurd (omega arith))) (order k m)
+no-dearer-than (pos k) m h = ⊎-elim (λ l. inl (lt-ltb k m l)) (⊎-elim (λ l. inr (ap pos l)) (λ l. absurd (omega arith))) (Signed.order k m)
 no-dearer-than (negsuc k) m h = inl refl
 
 -- A choice c for the first of n bidders, the bids of the others, and the best so far.
-module _ (demand n : ℕ) (prices : Prices) (c : List Segment) (sound : All SoundSegment c) (bids : List BidEntries) (accepted : All AcceptedBid bids)
+module _ (order : Order) (n : ℕ) (prices : Prices) (c : List Segment) (sound : All SoundSegment c) (bids : List BidEntries) (accepted : All AcceptedBid bids)
     (all : length c + length bids ≡ n) (best : MaybeDivision) (ties : Bool) (wins : ties ≡ true → GivesMore c best) where
   abbrev supplies : List (List Segment)
   supplies = suppliesOf bids
@@ -67,7 +69,7 @@ module _ (demand n : ℕ) (prices : Prices) (c : List Segment) (sound : All Soun
   kept = divisionIn n best
 
   -- a division of the part costs at least what its charges say
-  module _ (d : Priced) (p : Divides demand supplies c d) where
+  module _ (d : Priced) (p : Divides order supplies c d) where
     abbrev e : List Segment
     e = p .later
 
@@ -77,17 +79,17 @@ module _ (demand n : ℕ) (prices : Prices) (c : List Segment) (sound : All Soun
     abbrev price : ℕ
     price = cost c (p .extras) + cost e ys
 
-    bound : (l : ℕ) → charges demand l c + charges demand l e + l * demand ≤ price + l * (million * n)
+    bound : (l : ℕ) → charges order l c + charges order l e + l * order .demand .0 ≤ price + l * (million * n)
     bound l =
-        let meets = ap (λ (r : ℕ). l * r) (p .meets) in
+        let enough = mul-le-mul-left l (p .enough) in
         let size : length c + length e ≡ n = omega (arith, chosen-length supplies e ys (p .chosen), length-map bids supplyOf) in
         let blanks = ap (λ (k : ℕ). l * (million * k)) size in
         omega (
           arith,
-          meets,
+          enough,
           blanks,
-          charges-below demand l c (p .extras) sound (p .box) (omega (arith, p .meets)),
-          charges-below demand l e ys (chosen-each supplies e ys sound-left (p .chosen)) (chosen-box supplies e ys (p .chosen)) (omega (arith, p .meets)),
+          charges-below order l c (p .extras) sound (p .box) (omega (arith, p .not-over)),
+          charges-below order l e ys (chosen-each supplies e ys sound-left (p .chosen)) (chosen-box supplies e ys (p .chosen)) (omega (arith, p .not-over)),
         )
 
     loses : natAbs (best .cost .0) < price → NotBetter d kept
@@ -101,44 +103,44 @@ module _ (demand n : ℕ) (prices : Prices) (c : List Segment) (sound : All Soun
         inr (subst (λ (x : Priced). better kept x ≡ true) (sym (p .is))
         (⊎-elim (λ k. better-cost kept whole k) (λ k. better-tie kept whole k more) (no-dearer-than (best .cost .0) price h)))
 
-    too-dear : (l charged : ℕ) → charged ≤ charges demand l c + charges demand l e → Above demand n l charged (natAbs (best .cost .0)) ties → NotBetter d kept
+    too-dear : (l charged : ℕ) → charged ≤ charges order l c + charges order l e → Above order n l charged (natAbs (best .cost .0)) ties → NotBetter d kept
     too-dear l charged h (inl a) = loses (omega (arith, bound l))
     too-dear l charged h (inr (t, a)) = ties-lost (omega (arith, bound l)) (wins t)
 
     -- its way to complete the choice is of a class that is closed
-    verdict : (sums class : Sums) → SumsOf demand prices c sums
-        → Admits class (bought (placed e ys)) (charges demand (prices .first .0) e) (charges demand (prices .second .0) e)
-        → Closed demand n prices sums class ties best → ⊥ ⊎ ((best .found ≡ true) × NotBetter d kept)
+    verdict : (sums class : Sums) → SumsOf order prices c sums
+        → Admits class (bought (placed e ys)) (charges order (prices .first .0) e) (charges order (prices .second .0) e)
+        → Closed order n prices sums class ties best → ⊥ ⊎ ((best .found ≡ true) × NotBetter d kept)
     verdict sums class s a (empty h) = inl (omega (arith, a .high))
-    verdict sums class s a (passed h) = inl (omega (arith, p .meets, s .low, a .low, placed-bought c (p .extras) (p .box)))
+    verdict sums class s a (passed h) = inl (omega (arith, p .not-over, s .low, a .low, placed-bought c (p .extras) (p .box)))
     verdict sums class s a (short h) =
-        inl (omega (arith, p .meets, s .high, a .high, placed-bought c (p .extras) (p .box), box-widths c (p .extras) (p .box), ends-widths c sound))
+        inl (omega (arith, p .enough, s .high, a .high, placed-bought c (p .extras) (p .box), box-widths c (p .extras) (p .box), ends-widths c sound))
     verdict sums class s a (dearFirst f h) =
         inr (f, too-dear (prices .first .0) (sums .first + class .first) (omega (arith, s .first, a .first)) h)
     verdict sums class s a (dearSecond f h) =
         inr (f, too-dear (prices .second .0) (sums .second + class .second) (omega (arith, s .second, a .second)) h)
 
   -- so no division is better
-  module _ (verdicts : (d : Priced) → Leaf demand supplies c d → ⊥ ⊎ ((best .found ≡ true) × NotBetter d kept)) where
-    as-it-is : search demand supplies c (found n best) ≡ found n best
+  module _ (verdicts : (d : Priced) → Leaf order supplies c d → ⊥ ⊎ ((best .found ≡ true) × NotBetter d kept)) where
+    as-it-is : search order supplies c (found n best) ≡ found n best
     as-it-is = go (best .found) refl
       where
-        go : (t : Bool) → best .found ≡ t → search demand supplies c (cond t (some kept) none) ≡ cond t (some kept) none
-        go true f = none-better demand supplies c kept (λ d l. ⊎-elim (λ x. absurd x) (λ x. x .1) (verdicts d l))
-        go false f = none-there demand supplies c none (λ d l. ⊎-elim (λ x. x) (λ x. false≢true (sym f ∙ x .0)) (verdicts d l))
+        go : (t : Bool) → best .found ≡ t → search order supplies c (cond t (some kept) none) ≡ cond t (some kept) none
+        go true f = none-better order supplies c kept (λ d l. ⊎-elim (λ x. absurd x) (λ x. x .1) (verdicts d l))
+        go false f = none-there order supplies c none (λ d l. ⊎-elim (λ x. x) (λ x. false≢true (sym f ∙ x .0)) (verdicts d l))
 
 -- every class is closed
-pub nothing-better : (demand n : ℕ) (prices : Prices) (table : List ℕ) (at : ℕ) (sums : Sums) (ties : Bool) (best : MaybeDivision) → at ≤ n
-    → ((left i : ℕ) → at + left ≡ n → i < classCount left → Closed demand n prices sums (classAt table (32 * at + i)) ties best)
-    → NothingBetter demand n prices table at sums ties best
-nothing-better demand n prices table at sums ties best within closed = record {
+pub nothing-better : (order : Order) (n : ℕ) (prices : Prices) (table : List ℕ) (at : ℕ) (sums : Sums) (ties : Bool) (best : MaybeDivision) → at ≤ n
+    → ((left i : ℕ) → at + left ≡ n → i < classCount left → Closed order n prices sums (classAt table (32 * at + i)) ties best)
+    → NothingBetter order n prices table at sums ties best
+nothing-better order n prices table at sums ties best within closed = record {
   as-it-is = λ c sound size s wins bids accepted all covers.
       let whole : length c + length bids ≡ n = omega arith in
-      as-it-is demand n prices c sound bids accepted whole best ties wins
+      as-it-is order n prices c sound bids accepted whole best ties wins
       (λ d leaf.
-      let p = divides demand (suppliesOf bids) c d (sound-supplies bids accepted) sound leaf in
-      let h = covers .has (p .later) (p .laterShares) (p .chosen) (omega (arith, p .meets)) in
+      let p = divides order (suppliesOf bids) c d (sound-supplies bids accepted) sound leaf in
+      let h = covers .has (p .later) (p .laterShares) (p .chosen) (omega (arith, p .not-over)) in
       let left : at + length (suppliesOf bids) ≡ n = omega (arith, length-map bids supplyOf) in
-      verdict demand n prices c sound bids accepted whole best ties wins d p sums (classAt table (32 * at + h .class)) s (h .admits)
+      verdict order n prices c sound bids accepted whole best ties wins d p sums (classAt table (32 * at + h .class)) s (h .admits)
       (closed (length (suppliesOf bids)) (h .class) left (h .within)));
 }

@@ -8,9 +8,11 @@ use lib.IntN.{natAbs}
 use lib.ListN.{length, take}
 use Rattle.lists.specs.All.{All}
 use Rattle.book.specs.declared.Segment.{Segment}
+use Rattle.book.specs.declared.Order.{Order}
 use Rattle.book.specs.Entries.{BidEntries}
 use Rattle.book.specs.Accepted.{AcceptedBid}
 use Rattle.supply.specs.Supply.{suppliesOf}
+use Rattle.supply.specs.Meets.{mostOf}
 use Rattle.supply.specs.Sound.{SoundSegment}
 use Rattle.divisions.specs.Award.{givesMore}
 use Rattle.choices.specs.Choice.{endsInOrder}
@@ -28,23 +30,23 @@ abbrev pub GivesMore : List Segment → MaybeDivision → Type 0
 GivesMore c best = givesMore (take (length c) (blanksIn (best .quantities))) (endsInOrder c) ≡ true
 
 -- by a price l of a blank, n bidders with these charges cost more than so many cents; or as many, where that is enough
-abbrev pub Above : (demand n l charged cents : ℕ) → Bool → Type 0
-Above demand n l charged cents ties =
-    (cents + l * (million * n) < charged + l * demand) ⊎ ((ties ≡ true) × (cents + l * (million * n) ≤ charged + l * demand))
+abbrev pub Above : Order → (n l charged cents : ℕ) → Bool → Type 0
+Above order n l charged cents ties =
+    (cents + l * (million * n) < charged + l * order .demand .0) ⊎ ((ties ≡ true) × (cents + l * (million * n) ≤ charged + l * order .demand .0))
 
 -- of a choice with these sums and a class of ways to complete it nothing is better than the best so far
-pub data Closed (demand n : ℕ) (prices : Prices) (sums class : Sums) (ties : Bool) (best : MaybeDivision) : Type 0 where
+pub data Closed (order : Order) (n : ℕ) (prices : Prices) (sums class : Sums) (ties : Bool) (best : MaybeDivision) : Type 0 where
   -- the class is empty
-  empty : class .high .0 ≡ 0 → Closed demand n prices sums class ties best
-  -- the starts pass the demand
-  passed : demand < sums .low .0 + class .low .0 → Closed demand n prices sums class ties best
-  -- the ends do not reach it; a class does not count its `high`
-  short : sums .high .0 + class .high .0 ≤ demand → Closed demand n prices sums class ties best
+  empty : class .high .0 ≡ 0 → Closed order n prices sums class ties best
+  -- the starts pass what the order takes
+  passed : mostOf order < sums .low .0 + class .low .0 → Closed order n prices sums class ties best
+  -- the ends do not reach the demand; a class does not count its `high`
+  short : sums .high .0 + class .high .0 ≤ order .demand .0 → Closed order n prices sums class ties best
   -- every division costs too much, by the first price or by the second
-  dearFirst : best .found ≡ true → Above demand n (prices .first .0) (sums .first + class .first) (natAbs (best .cost .0)) ties
-      → Closed demand n prices sums class ties best
-  dearSecond : best .found ≡ true → Above demand n (prices .second .0) (sums .second + class .second) (natAbs (best .cost .0)) ties
-      → Closed demand n prices sums class ties best
+  dearFirst : best .found ≡ true → Above order n (prices .first .0) (sums .first + class .first) (natAbs (best .cost .0)) ties
+      → Closed order n prices sums class ties best
+  dearSecond : best .found ≡ true → Above order n (prices .second .0) (sums .second + class .second) (natAbs (best .cost .0)) ties
+      → Closed order n prices sums class ties best
 
 -- what `dear` asks: numbers of at most eight bidders, so that nothing wraps
 pub record Comparable (demand n l charged cents : ℕ) : Type 0 where
@@ -70,7 +72,7 @@ pub record Testable (n : ℕ) (prices : Prices) (table : List ℕ) (at : ℕ) (s
   pub small : UpTo 8 sums
 
 -- the search with a choice c that has these sums, and with bidders whose ways to complete it the table covers, leaves the best so far as it is
-pub record NothingBetter (demand n : ℕ) (prices : Prices) (table : List ℕ) (at : ℕ) (sums : Sums) (ties : Bool) (best : MaybeDivision) : Type 0 where
-  pub as-it-is : (c : List Segment) → All SoundSegment c → length c ≡ at → SumsOf demand prices c sums → (ties ≡ true → GivesMore c best)
-      → (bids : List BidEntries) → All AcceptedBid bids → at + length bids ≡ n → Covers demand prices table at (suppliesOf bids)
-      → search demand (suppliesOf bids) c (found n best) ≡ found n best
+pub record NothingBetter (order : Order) (n : ℕ) (prices : Prices) (table : List ℕ) (at : ℕ) (sums : Sums) (ties : Bool) (best : MaybeDivision) : Type 0 where
+  pub as-it-is : (c : List Segment) → All SoundSegment c → length c ≡ at → SumsOf order prices c sums → (ties ≡ true → GivesMore c best)
+      → (bids : List BidEntries) → All AcceptedBid bids → at + length bids ≡ n → Covers order prices table at (suppliesOf bids)
+      → search order (suppliesOf bids) c (found n best) ≡ found n best

@@ -4,36 +4,33 @@ ghost use mathlib.Core.Path.{_≡_};
 ghost use mathlib.Core.Bool.{true, false};
 ghost use mathlib.Core.Logic.{_⊎_};
 ghost use Prim.Native.Nat.{_≤_, _<_};
+ghost use Rattle.supply.specs.Meets.{mostOf};
 ghost use Rattle.hopeless.specs.Hopeless.{Above, Closed, Comparable, Closable, Testable, NothingBetter};
+use book::Order;
 use charges::Prices;
 use charges::Sums;
 use comparison::MaybeDivision;
 use money::Blanks;
 use money::CentsPerBlank;
 
-// Whether no division lies within these sums: the starts pass the demand, or the ends do not reach it.
-fn apart(demand: Blanks, x: Sums) -> bool
-    ensures { λ r. ⌜ (r ≡ true → (demand .0 < x .low .0) ⊎ (x .high .0 ≤ demand .0)) ⌝ }
-    ensures { λ r. ⌜ (r ≡ false → demand .0 < x .high .0) ⌝ }
+// Whether no division lies within these sums: the starts pass what the order takes, or the ends do not reach the demand.
+fn apart(order: Order, x: Sums) -> bool
+    ensures { λ r. ⌜ (r ≡ true → (mostOf order < x .low .0) ⊎ (x .high .0 ≤ order .demand .0)) ⌝ }
+    ensures { λ r. ⌜ (r ≡ false → order .demand .0 < x .high .0) ⌝ }
 {
-    if demand.0 < x.low.0 {
+    let low = x.low;
+    if supply::passes(order, low) {
         return true;
     }
-    x.high.0 <= demand.0
+    x.high.0 <= order.demand.0
 }
 
 // Whether by a price of a blank n bidders with these charges cost more than so many cents; or as many, where ties are lost.
-fn dear(
-    demand: Blanks,
-    n: usize,
-    price: CentsPerBlank,
-    charged: u64,
-    cents: u64,
-    ties: bool,
-) -> bool
-    requires { ⌜ Comparable (demand .0) n (price .0) charged cents ⌝ }
-    ensures { λ r. ⌜ (r ≡ true → Above (demand .0) n (price .0) charged cents ties) ⌝ }
+fn dear(order: Order, n: usize, price: CentsPerBlank, charged: u64, cents: u64, ties: bool) -> bool
+    requires { ⌜ Comparable (order .demand .0) n (price .0) charged cents ⌝ }
+    ensures { λ r. ⌜ (r ≡ true → Above order n (price .0) charged cents ties) ⌝ }
 {
+    let demand = order.demand;
     let limit = cents + charges::at_price(price, Blanks(1000000 * (n as u64)));
     let bound = charged + charges::at_price(price, demand);
     if ties {
@@ -44,7 +41,7 @@ fn dear(
 
 // Whether, with a class of ways to complete a choice that has these sums, nothing is better than the best so far.
 fn closed(
-    demand: Blanks,
+    order: Order,
     n: usize,
     prices: Prices,
     sums: Sums,
@@ -53,13 +50,13 @@ fn closed(
     best: MaybeDivision,
 ) -> bool
     requires { ⌜ Closable n prices sums class ⌝ }
-    ensures { λ r. ⌜ (r ≡ true → Closed (demand .0) n prices sums class ties best) ⌝ }
+    ensures { λ r. ⌜ (r ≡ true → Closed order n prices sums class ties best) ⌝ }
 {
     if class.high.0 == 0 {
         return true;
     }
     let x = charges::plus(sums, class);
-    if apart(demand, x) {
+    if apart(order, x) {
         return true;
     }
     if !best.found {
@@ -68,11 +65,11 @@ fn closed(
     let cost = best.cost;
     let cents = money::magnitude(cost);
     let a = prices.first;
-    if dear(demand, n, a, x.first, cents, ties) {
+    if dear(order, n, a, x.first, cents, ties) {
         return true;
     }
     let b = prices.second;
-    dear(demand, n, b, x.second, cents, ties)
+    dear(order, n, b, x.second, cents, ties)
 }
 
 // Whether the search can go on with a choice for the first `at` of n bidders only to leave the best so far as it is: with each class of
@@ -81,7 +78,7 @@ fn closed(
 pub fn hopeless(
     table: &[u64; 1152],
     at: usize,
-    demand: Blanks,
+    order: Order,
     n: usize,
     prices: Prices,
     sums: Sums,
@@ -89,13 +86,13 @@ pub fn hopeless(
     best: MaybeDivision,
 ) -> bool
     requires { ⌜ Testable n prices (now table) at sums ⌝ }
-    ensures { λ r. ⌜ (r ≡ true → NothingBetter (demand .0) n prices (now (table .entry)) at sums ties best) ⌝ }
+    ensures { λ r. ⌜ (r ≡ true → NothingBetter order n prices (now (table .entry)) at sums ties best) ⌝ }
 {
     let count = completions::class_count(n - at);
     let mut i: usize = 0;
     while i < count {
         let class = completions::class_at(table, 32 * at + i);
-        if !closed(demand, n, prices, sums, class, ties, best) {
+        if !closed(order, n, prices, sums, class, ties, best) {
             return false;
         }
         i += 1;

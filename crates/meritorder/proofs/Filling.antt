@@ -2,11 +2,11 @@
 use Prim.Native.Nat.{ℕ, suc, _+_, _-_, _*_, _≤_, _<_}
 use native.Mathlib.Numerals.{add-one}
 use native.Mathlib.Omega.{arith}
-use mathlib.Core.Bool.{false}
+use mathlib.Core.Bool.{true, false}
 use mathlib.Core.List.{List, [], _∷_, reverse, reverseAux}
 use mathlib.Core.Path.{_≡_, sym, ap, _∙_}
-use borrow.Author.Tests.{le-leb, lt-leb}
-use lib.Dec.{leb}
+use borrow.Author.Tests.{ltb-true, ltb-false, le-leb, lt-leb}
+use lib.Dec.{leb, ltb}
 use lib.IntN.{ℤ, pos, natAbs, _+ℤ_, +ℤ-assoc, +ℤ-idl, +ℤ-idr}
 use lib.ListN.{length, set, take, length-set, length-map}
 use lib.Seq.{slice, slice-empty}
@@ -17,8 +17,10 @@ use Rattle.lists.proofs.Slices.{map-set, slice-set}
 use Rattle.money.specs.declared.Blanks.{Blanks}
 use Rattle.money.proofs.Bounds.{natAbs-plus, small-fits}
 use Rattle.book.specs.declared.Segment.{Segment}
+use Rattle.book.specs.declared.Order.{Order}
 use Rattle.book.specs.Rules.{priceOn}
 use Rattle.supply.specs.Supply.{segment0}
+use Rattle.supply.specs.Meets.{mostOf}
 use Rattle.supply.specs.Sound.{mostBlanks, priceLimit, SoundSegment}
 use Rattle.supply.proofs.Sound.{price-small}
 use Rattle.divisions.specs.Award.{Priced}
@@ -29,14 +31,18 @@ use Rattle.choicerecord.proofs.Choosing.{sound-at}
 use Rattle.comparison.specs.Records.{blanksIn}
 
 -- whether a choice fits, from the carried sums
-module _ (demand : ℕ) (c : Choice) (carried : Carried c) where
-  pub too-many : demand < c .starts .0 → false ≡ fits demand (chosen c)
+module _ (order : Order) (c : Choice) (carried : Carried c) where
+  pub too-many : ltb (mostOf order) (c .starts .0) ≡ true → false ≡ fits order (chosen c)
   unfolding fits
-  too-many h = rw (lt-leb (starts (chosen c)) demand (omega (arith, carried .starts)))
+  too-many e =
+      let h = ltb-true (mostOf order) (c .starts .0) e in
+      rw (lt-leb (starts (chosen c)) (mostOf order) (omega (arith, carried .starts)))
 
-  pub not-too-many : c .starts .0 ≤ demand → leb demand (c .ends .0) ≡ fits demand (chosen c)
+  pub not-too-many : ltb (mostOf order) (c .starts .0) ≡ false → leb (order .demand .0) (c .ends .0) ≡ fits order (chosen c)
   unfolding fits
-  not-too-many h = rw (le-leb (starts (chosen c)) demand (omega (arith, carried .starts)), carried .ends)
+  not-too-many e =
+      let h = ltb-false (mostOf order) (c .starts .0) e in
+      rw (le-leb (starts (chosen c)) (mostOf order) (omega (arith, carried .starts)), carried .ends)
 
 -- an extra is no more than what is left, and with the start no more than the end
 pub extra-left : (left : ℕ) (s : Segment) (c : List Segment) → extra left s c ≤ left
@@ -134,7 +140,7 @@ module _ {c : Choice} {all left : ℕ} {quantities : List Blanks} {total : ℤ} 
     all-given : take (c .count) (blanksIn quantities) ≡ reverse (givenFrom all (chosen c))
     all-given = rw none-left at (rw last at (filling .given))
 
-    pub filling-all : (demand : ℕ) → all ≡ demand - starts (chosen c)
-        → _≡_ {A = Priced} (record { cost = total; quantities = take (c .count) (blanksIn quantities) }) (filled demand (chosen c))
+    pub filling-all : (order : Order) → all ≡ order .demand .0 - starts (chosen c)
+        → _≡_ {A = Priced} (record { cost = total; quantities = take (c .count) (blanksIn quantities) }) (filled order (chosen c))
     unfolding filled
-    filling-all demand e = rw (all-cost, all-given, e)
+    filling-all order e = rw (all-cost, all-given, e)

@@ -2,6 +2,7 @@
 use Prim.Native.Nat.{ℕ, _≤_}
 use mathlib.Core.Bool.{true}
 use mathlib.Core.Path.{_≡_}
+use Rattle.book.specs.declared.Order.{Order}
 use Rattle.choices.specs.Choice.{fits}
 use Rattle.choicerecord.specs.declared.Choice.{Choice}
 use Rattle.choicerecord.specs.Records.{chosen, Sound}
@@ -11,7 +12,7 @@ pub record HasFirst (c : Choice) (n : ℕ) : Type 0 where
   pub sound : Sound c
   pub within : n ≤ c .count
 
--- what `fill` asks: a choice that fits the demand
-pub record Fillable (c : Choice) (demand : ℕ) : Type 0 where
+-- what `fill` asks: a choice that fits the order
+pub record Fillable (c : Choice) (order : Order) : Type 0 where
   pub sound : Sound c
-  pub fitting : fits demand (chosen c) ≡ true
+  pub fitting : fits order (chosen c) ≡ true

@@ -1,4 +1,4 @@
-// A choice of a segment for each bidder: whether it fits the demand, and the cheapest quantities within it.
+// A choice of a segment for each bidder: whether it fits the order, and the cheapest quantities within it.
 ghost use mathlib.Core.Path.{_≡_};
 ghost use mathlib.Core.Bool.{true};
 ghost use Prim.Native.Nat.{_+_};
@@ -7,6 +7,7 @@ ghost use Rattle.choices.specs.Choice.{fits, cheaper, extra, filled};
 ghost use Rattle.choicerecord.specs.Records.{segmentAt, firstSegments, chosen, Sound};
 ghost use Rattle.comparison.specs.Records.{divisionIn};
 ghost use Rattle.meritorder.specs.Asked.{HasFirst, Fillable};
+use book::Order;
 use book::Segment;
 use choicerecord::Choice;
 use comparison::MaybeDivision;
@@ -14,16 +15,17 @@ use money::Blanks;
 use money::Cents;
 use money::CentsPerBlank;
 
-// The starts add up to at most the demand, and the ends to at least it, by the sums that the choice
+// The starts add up to no more than the order takes, and the ends to at least the demand, by the sums that the choice
 // carries; prices do not matter.
-pub fn fits(c: Choice, demand: Blanks) -> bool
+pub fn fits(c: Choice, order: Order) -> bool
     requires { ⌜ Sound c ⌝ }
-    ensures { λ r. ⌜ r ≡ fits (demand .0) (chosen c) ⌝ }
+    ensures { λ r. ⌜ r ≡ fits order (chosen c) ⌝ }
 {
-    if demand.0 < c.starts.0 {
+    let starts = c.starts;
+    if supply::passes(order, starts) {
         return false;
     }
-    demand.0 <= c.ends.0
+    order.demand.0 <= c.ends.0
 }
 
 // Whether a further blank costs no more on s than `unit`. Its unit price decides, and not what its
@@ -74,12 +76,12 @@ fn extra(c: Choice, i: usize, left: Blanks) -> Blanks
 
 // The cheapest quantities within a choice that fits: from the last bidder to the first, each gets its
 // start and its extra of what is left.
-pub fn fill(c: Choice, demand: Blanks) -> MaybeDivision
-    requires { ⌜ Fillable c (demand .0) ⌝ }
+pub fn fill(c: Choice, order: Order) -> MaybeDivision
+    requires { ⌜ Fillable c order ⌝ }
     ensures { λ r. ⌜ r .found ≡ true ⌝ }
-    ensures { λ r. ⌜ divisionIn (c .count) r ≡ filled (demand .0) (chosen c) ⌝ }
+    ensures { λ r. ⌜ divisionIn (c .count) r ≡ filled order (chosen c) ⌝ }
 {
-    let mut left = Blanks(demand.0 - c.starts.0);
+    let mut left = Blanks(order.demand.0 - c.starts.0);
     let mut quantities = [Blanks(0); 8];
     let mut cost = Cents(0);
     let mut i = c.count;

@@ -8,6 +8,7 @@ use lib.ListN.{length, getD, drop, drop-of-length-le}
 use lib.Seq.{drop-cons}
 use Rattle.lists.proofs.Latest.{latest-none, latest-next}
 use Rattle.book.specs.declared.Segment.{Segment}
+use Rattle.book.specs.declared.Order.{Order}
 use Rattle.book.specs.declared.Book.{Book}
 use Rattle.book.specs.Entries.{bidEntries, bookEntries}
 use Rattle.book.proofs.Records.{noBid}
@@ -55,12 +56,12 @@ module _ (book : Book) (searchable : Searchable (bookEntries book)) (held : book
         go k h (no e) = rw (x .others k e) (p .each k (omega (arith, x .count)))
 
 -- What a complete choice gives, the search comes to.
-module _ {supplies : List (List Segment)} {c : Choice} (p : ChosenFrom supplies c) (demand : ℕ) (d : Priced) where
-  reached : (at : ℕ) → at ≤ length supplies → Leaf demand (drop at supplies) (firstSegments c at) d → Leaf demand supplies [] d
+module _ {supplies : List (List Segment)} {c : Choice} (p : ChosenFrom supplies c) (order : Order) (d : Priced) where
+  reached : (at : ℕ) → at ≤ length supplies → Leaf order (drop at supplies) (firstSegments c at) d → Leaf order supplies [] d
   reached zero h l = rw latest-none at l
   reached (suc k) h l =
-      let next : Leaf demand (drop (suc k) supplies) (segmentAt c k ∷ firstSegments c k) d = rw latest-next at l in
+      let next : Leaf order (drop (suc k) supplies) (segmentAt c k ∷ firstSegments c k) d = rw latest-next at l in
       reached k (omega arith) (rw (drop-cons supplies k [] h) (segmentAt c k, p .each k (omega (arith, p .all)), next))
 
-  pub complete-leaf : Leaf demand [] (chosen c) d → Leaf demand supplies [] d
+  pub complete-leaf : Leaf order [] (chosen c) d → Leaf order supplies [] d
   complete-leaf l = let done : drop (c .count) supplies ≡ [] = drop-of-length-le supplies {i = c .count} (omega (arith, p .all)) in reached (c .count) (omega (arith, p .all)) (rw done l)

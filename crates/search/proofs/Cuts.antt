@@ -8,6 +8,7 @@ use lib.ListN.{length, drop, length-drop}
 use Rattle.lists.specs.All.{All}
 use Rattle.lists.proofs.Removed.{map-drop, all-drop}
 use Rattle.book.specs.declared.Segment.{Segment}
+use Rattle.book.specs.declared.Order.{Order}
 use Rattle.book.specs.declared.Book.{Book}
 use Rattle.book.specs.Entries.{BidEntries, bookEntries}
 use Rattle.book.specs.Accepted.{AcceptedBid}
@@ -30,17 +31,17 @@ use Rattle.hopeless.specs.Hopeless.{GivesMore, NothingBetter}
 use Rattle.search.specs.Searchable.{Searchable, sumsOf}
 
 -- by what a choice carries and its charges it is judged as by sums added up afresh
-pub sums-carried : (demand : ℕ) (prices : Prices) (c : Choice) (charged : Charges) → Sound c → ChargesOf demand prices (chosen c) charged
-    → SumsOf demand prices (chosen c) (sumsOf c charged)
-sums-carried demand prices c charged sound h =
+pub sums-carried : (order : Order) (prices : Prices) (c : Choice) (charged : Charges) → Sound c → ChargesOf order prices (chosen c) charged
+    → SumsOf order prices (chosen c) (sumsOf c charged)
+sums-carried order prices c charged sound h =
     record { low = sound .carried .starts; high = sound .carried .ends; first = h .first; second = h .second }
 
-pub charges-among : {demand : ℕ} {prices : Prices} {c : List Segment} {sums : Sums} → SumsOf demand prices c sums → ChargesOf demand prices c (chargesIn sums)
+pub charges-among : {order : Order} {prices : Prices} {c : List Segment} {sums : Sums} → SumsOf order prices c sums → ChargesOf order prices c (chargesIn sums)
 charges-among h = record { first = h .first; second = h .second }
 
 -- the sums of a choice are no larger than those of eight bidders
-pub small-sums : (demand : ℕ) (prices : Prices) (c : Choice) (sums : Sums) → Sound c → Capped prices → SumsOf demand prices (chosen c) sums → UpTo 8 sums
-small-sums demand prices c sums sound capped s = sums-up-to demand prices 8 (chosen c) sums (sound .each) capped (omega (arith, length-chosen c, sound .few)) s
+pub small-sums : (order : Order) (prices : Prices) (c : Choice) (sums : Sums) → Sound c → Capped prices → SumsOf order prices (chosen c) sums → UpTo 8 sums
+small-sums order prices c sums sound capped s = sums-up-to order prices 8 (chosen c) sums (sound .each) capped (omega (arith, length-chosen c, sound .few)) s
 
 module _ (book : Book) (prices : Prices) (table : List ℕ) (searchable : Searchable (bookEntries book)) (surveyed : Surveyed book prices table)
     (held : book .count ≤ length (book .bids)) where
@@ -48,12 +49,12 @@ module _ (book : Book) (prices : Prices) (table : List ℕ) (searchable : Search
   bids = bookEntries book .bids
 
   pub cut : (at : ℕ) → at ≤ book .count → (c : List Segment) → All SoundSegment c → length c ≡ at
-      → (sums : Sums) → SumsOf (book .demand .0) prices c sums → (ties : Bool) (best : MaybeDivision) → (ties ≡ true → GivesMore c best)
-      → NothingBetter (book .demand .0) (book .count) prices table at sums ties best
-      → found (book .count) best ≡ search (book .demand .0) (drop at (suppliesOf bids)) c (found (book .count) best)
+      → (sums : Sums) → SumsOf (book .order) prices c sums → (ties : Bool) (best : MaybeDivision) → (ties ≡ true → GivesMore c best)
+      → NothingBetter (book .order) (book .count) prices table at sums ties best
+      → found (book .count) best ≡ search (book .order) (drop at (suppliesOf bids)) c (found (book .count) best)
   cut at within c sound size sums s ties best wins nothing =
       let same : suppliesOf (drop at bids) ≡ drop at (suppliesOf bids) = map-drop supplyOf at bids in
-      let covers = subst (Covers (book .demand .0) prices table at) (sym same) (surveyed .covers at within) in
+      let covers = subst (Covers (book .order) prices table at) (sym same) (surveyed .covers at within) in
       let all : at + length (drop at bids) ≡ book .count = omega (arith, length-drop at bids, length-entries (book .bids) (book .count) held) in
       let kept = nothing .as-it-is c sound size s wins (drop at bids) (all-drop AcceptedBid at bids (searchable .bids)) all covers in
-      sym (subst (λ (left : List (List Segment)). search (book .demand .0) left c (found (book .count) best) ≡ found (book .count) best) same kept)
+      sym (subst (λ (left : List (List Segment)). search (book .order) left c (found (book .count) best) ≡ found (book .count) best) same kept)

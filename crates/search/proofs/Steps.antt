@@ -8,6 +8,7 @@ use mathlib.Core.Path.{_≡_, ap, subst, _∙_}
 use lib.ListN.{length, getD, take, drop, drop-of-length-le}
 use lib.Seq.{drop-cons}
 use Rattle.book.specs.declared.Segment.{Segment}
+use Rattle.book.specs.declared.Order.{Order}
 use Rattle.book.specs.declared.Bid.{Bid}
 use Rattle.book.specs.declared.Book.{Book}
 use Rattle.book.specs.Entries.{BidEntries, bidEntries}
@@ -27,12 +28,12 @@ use Rattle.comparison.specs.Records.{found}
 use Rattle.search.specs.Searchable.{ChoiceOf}
 
 -- A complete choice.
-module _ (demand : ℕ) (c : List Segment) (o : Option Priced) where
-  pub unfit : fits demand c ≡ false → o ≡ leaf demand c o
+module _ (order : Order) (c : List Segment) (o : Option Priced) where
+  pub unfit : fits order c ≡ false → o ≡ leaf order c o
   unfolding leaf
   unfit e = rw e
 
-  pub fit : fits demand c ≡ true → (d : Priced) → d ≡ filled demand c → pick o d ≡ leaf demand c o
+  pub fit : fits order c ≡ true → (d : Priced) → d ≡ filled order c → pick o d ≡ leaf order c o
   unfolding leaf
   fit e d f = rw (e, f)
 
@@ -56,22 +57,22 @@ module _ (f : Segment → Option Priced → Option Priced) (ss : List Segment) (
   each-all j e r p = rw e at p
 
 -- one of them tried, with the bidders after it
-abbrev pub tried : ℕ → List (List Segment) → List Segment → Segment → Option Priced → Option Priced
-tried demand supplies c s = search demand supplies (s ∷ c)
+abbrev pub tried : Order → List (List Segment) → List Segment → Segment → Option Priced → Option Priced
+tried order supplies c s = search order supplies (s ∷ c)
 
 -- The bidders from `at` on.
 module _ (bids : List Bid) (n : ℕ) (held : n ≤ length bids) where
   abbrev entries : List BidEntries
   entries = map bidEntries (take n bids)
 
-  module _ (demand at : ℕ) (c : List Segment) (o : Option Priced) where
-    pub bidders-done : n ≤ at → search demand (drop at (suppliesOf entries)) c o ≡ leaf demand c o
+  module _ (order : Order) (at : ℕ) (c : List Segment) (o : Option Priced) where
+    pub bidders-done : n ≤ at → search order (drop at (suppliesOf entries)) c o ≡ leaf order c o
     unfolding search
     bidders-done h = rw (supplies-done bids n held at h)
 
     pub bidders-next : at < n
-        → search demand (drop at (suppliesOf entries)) c o
-        ≡ each (tried demand (drop (at + 1) (suppliesOf entries)) c) (supplyOf (bidEntries (getD bids at noBid))) o
+        → search order (drop at (suppliesOf entries)) c o
+        ≡ each (tried order (drop (at + 1) (suppliesOf entries)) c) (supplyOf (bidEntries (getD bids at noBid))) o
     unfolding search
     bidders-next h = rw (supplies-next bids n held at h)
 

@@ -2,6 +2,7 @@
 use Prim.Native.Nat.{ℕ, _≤_, _<_}
 use mathlib.Core.List.{List}
 use Rattle.lists.specs.All.{All}
+use Rattle.book.specs.declared.Order.{Order}
 use Rattle.book.specs.declared.Book.{Book}
 use Rattle.book.specs.Entries.{BookEntries, bookEntries}
 use Rattle.book.specs.Accepted.{AcceptedBid}
@@ -25,7 +26,7 @@ pub record Searchable (b : BookEntries) : Type 0 where
 -- what `first` asks: a book, and what a complete choice of its segments gives, or none
 pub record StartedWith (book : Book) (best : MaybeDivision) : Type 0 where
   pub searchable : Searchable (bookEntries book)
-  pub started : Started (book .demand .0) (suppliesOf (bookEntries book .bids)) (found (book .count) best)
+  pub started : Started (book .order) (suppliesOf (bookEntries book .bids)) (found (book .count) best)
 
 -- a book, and a choice for the first of its bidders, for none or for all
 pub record ChoiceOf (book : Book) (c : Choice) : Type 0 where
@@ -34,13 +35,13 @@ pub record ChoiceOf (book : Book) (c : Choice) : Type 0 where
   pub within : c .count ≤ book .count
 
 -- what `lost` asks: a choice for the first of n bidders with its sums, and a table of classes
-pub record Testing (demand n : ℕ) (prices : Prices) (table : List ℕ) (c : Choice) (sums : Sums) : Type 0 where
+pub record Testing (order : Order) (n : ℕ) (prices : Prices) (table : List ℕ) (c : Choice) (sums : Sums) : Type 0 where
   pub few : n ≤ 8
   pub within : c .count ≤ n
   pub choice : Sound c
   pub capped : Capped prices
   pub graded : Graded table
-  pub sums-of : SumsOf demand prices (chosen c) sums
+  pub sums-of : SumsOf order prices (chosen c) sums
 
 -- what a choice is judged by: the sums that it carries, and its charges
 abbrev pub sumsOf : Choice → Charges → Sums
@@ -52,4 +53,4 @@ pub record Searching (book : Book) (prices : Prices) (table : List ℕ) (c : Cho
   pub further : c .count < book .count
   pub capped : Capped prices
   pub surveyed : Surveyed book prices table
-  pub charges-of : ChargesOf (book .demand .0) prices (chosen c) charged
+  pub charges-of : ChargesOf (book .order) prices (chosen c) charged

@@ -60,9 +60,9 @@ fn choice_of(book: Book, numbers: [usize; 8]) -> Choice
 // the choice of the favoured segments.
 fn first(book: Book, numbers: [usize; 8], best: MaybeDivision) -> MaybeDivision
     requires { ⌜ StartedWith book best ⌝ }
-    ensures { λ r. ⌜ Started (book .demand .0) (suppliesOf (bookEntries book .bids)) (found (book .count) r) ⌝ }
+    ensures { λ r. ⌜ Started (book .order) (suppliesOf (bookEntries book .bids)) (found (book .count) r) ⌝ }
 {
-    let demand = book.demand;
+    let order = book.order;
     let c = choice_of(book, numbers);
     let mut so_far = best;
     let mut k: usize = 0;
@@ -70,7 +70,7 @@ fn first(book: Book, numbers: [usize; 8], best: MaybeDivision) -> MaybeDivision
         let at = k / 7;
         let bid = book.bids[at];
         let other = with_number(c, at, bid, k % 7);
-        so_far = crate::leaf(demand, other, so_far);
+        so_far = crate::leaf(order, other, so_far);
         k += 1;
     }
     so_far
@@ -82,7 +82,7 @@ fn first(book: Book, numbers: [usize; 8], best: MaybeDivision) -> MaybeDivision
 pub fn begin(book: Book) -> Beginning
     requires { ⌜ Searchable (bookEntries book) ⌝ }
     ensures { λ r. ⌜ Capped (r .prices) ⌝ }
-    ensures { λ r. ⌜ Started (book .demand .0) (suppliesOf (bookEntries book .bids)) (found (book .count) (r .best)) ⌝ }
+    ensures { λ r. ⌜ Started (book .order) (suppliesOf (bookEntries book .bids)) (found (book .count) (r .best)) ⌝ }
 {
     let price = hints::balance(book);
     let numbers = hints::favourites(book, price);

@@ -16,6 +16,7 @@ mod behind;
 mod first;
 
 use book::Book;
+use book::Order;
 use charges::Charges;
 use charges::Prices;
 use charges::Sums;
@@ -25,37 +26,37 @@ use money::Blanks;
 use money::Cents;
 
 // A complete choice: its division is compared with the best so far, if it has one.
-fn leaf(demand: Blanks, c: Choice, best: MaybeDivision) -> MaybeDivision
+fn leaf(order: Order, c: Choice, best: MaybeDivision) -> MaybeDivision
     requires { ⌜ Sound c ⌝ }
-    ensures { λ r. ⌜ found (c .count) r ≡ leaf (demand .0) (chosen c) (found (c .count) best) ⌝ }
+    ensures { λ r. ⌜ found (c .count) r ≡ leaf order (chosen c) (found (c .count) best) ⌝ }
 {
-    if !meritorder::fits(c, demand) {
+    if !meritorder::fits(c, order) {
         return best;
     }
     let n = c.count;
-    let new = meritorder::fill(c, demand);
+    let new = meritorder::fill(c, order);
     comparison::pick(best, new, n)
 }
 
 // Whether every division of a choice costs as much as the best so far at least, and loses each tie.
 fn lost(
     table: &[u64; 1152],
-    demand: Blanks,
+    order: Order,
     n: usize,
     prices: Prices,
     c: Choice,
     sums: Sums,
     best: MaybeDivision,
 ) -> bool
-    requires { ⌜ Testing (demand .0) n prices (now table) c sums ⌝ }
+    requires { ⌜ Testing order n prices (now table) c sums ⌝ }
     ensures { λ r. ⌜ (r ≡ true → GivesMore (chosen c) best) ⌝ }
-    ensures { λ r. ⌜ (r ≡ true → NothingBetter (demand .0) n prices (now (table .entry)) (c .count) sums true best) ⌝ }
+    ensures { λ r. ⌜ (r ≡ true → NothingBetter order n prices (now (table .entry)) (c .count) sums true best) ⌝ }
 {
     if !behind::behind(c, best) {
         return false;
     }
     let at = c.count;
-    hopeless::hopeless(table, at, demand, n, prices, sums, true, best)
+    hopeless::hopeless(table, at, order, n, prices, sums, true, best)
 }
 
 // What a part of the search is judged by: the sums that its choice carries, and what the choice is charged.
@@ -84,12 +85,12 @@ fn search(
     best: MaybeDivision,
 ) -> MaybeDivision
     requires { ⌜ Searching book prices (now table) c charged ⌝ }
-    ensures { λ r. ⌜ found (book .count) r ≡ search (book .demand .0) (drop (c .count) (suppliesOf (bookEntries book .bids))) (chosen c) (found (book .count) best) ⌝ }
+    ensures { λ r. ⌜ found (book .count) r ≡ search (book .order) (drop (c .count) (suppliesOf (bookEntries book .bids))) (chosen c) (found (book .count) best) ⌝ }
 {
-    let demand = book.demand;
+    let order = book.order;
     let n = book.count;
     let sums = sums_of(c, charged);
-    if lost(table, demand, n, prices, c, sums, best) {
+    if lost(table, order, n, prices, c, sums, best) {
         return best;
     }
     let at = c.count;
@@ -100,11 +101,11 @@ fn search(
     while 0 < j {
         j -= 1;
         let s = supply::segment_of(bid, j);
-        let more = charges::plus(sums, charges::charged(s, demand, prices));
-        if !hopeless::hopeless(table, at + 1, demand, n, prices, more, false, so_far) {
+        let more = charges::plus(sums, charges::charged(s, order, prices));
+        if !hopeless::hopeless(table, at + 1, order, n, prices, more, false, so_far) {
             let next = choicerecord::choose(c, s);
             if left == 1 {
-                so_far = leaf(demand, next, so_far);
+                so_far = leaf(order, next, so_far);
             } else {
                 so_far = search(book, table, prices, next, charges::charges_in(more), so_far);
             }
@@ -127,11 +128,11 @@ fn no_division() -> MaybeDivision
 // with the bids of an accepted book, and with all but one of them.
 pub fn best_division(book: Book) -> MaybeDivision
     requires { ⌜ Searchable (bookEntries book) ⌝ }
-    ensures { λ r. ⌜ found (book .count) r ≡ awardOf (book .demand .0) (suppliesOf (bookEntries book .bids)) ⌝ }
+    ensures { λ r. ⌜ found (book .count) r ≡ awardOf (book .order) (suppliesOf (bookEntries book .bids)) ⌝ }
 {
     if book.count == 0 {
-        let demand = book.demand;
-        return leaf(demand, choicerecord::nothing_sold(0), no_division());
+        let order = book.order;
+        return leaf(order, choicerecord::nothing_sold(0), no_division());
     }
     let beginning = first::begin(book);
     let prices = beginning.prices;

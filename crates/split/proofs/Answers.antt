@@ -1,16 +1,17 @@
 -- What the answer of a split says. Assumes nothing.
 use Prim.Native.Nat.{ℕ}
+use native.Mathlib.Omega.{arith}
 use mathlib.Core.Bool.{true}
 use mathlib.Core.List.{List}
 use mathlib.Core.Logic.{_↔_}
 use mathlib.Core.Path.{_≡_, sym, ap, _∙_}
-use borrow.Author.Tests.{eqb-true, eq-eqb}
-use lib.Dec.{eqb}
 use Rattle.book.specs.declared.Book.{Book}
 use Rattle.book.specs.Entries.{BookEntries, bookEntries, SameBook}
 use Rattle.refusal.specs.declared.Verdict.the-variants.{Accepted}
 use Rattle.supply.specs.Supply.{suppliesOf}
 use Rattle.supply.specs.Allocation.{bought, costOf}
+use Rattle.supply.specs.Meets.{meets}
+use Rattle.supply.proofs.Orders.{meets-low, meets-high, meets-when}
 use Rattle.split.specs.Split.{splitVerdict, splitOf}
 
 -- the same book, the same answer
@@ -23,10 +24,13 @@ module _ (b : BookEntries) (rs : List ℕ) (accepted : splitVerdict b rs ≡ Acc
   unfolding splitOf
   price-is-sum = rw accepted
 
-  answered : splitOf b rs .meets ≡ eqb (bought rs) (b .demand)
+  answered : splitOf b rs .meets ≡ meets (b .order) (bought rs)
   unfolding splitOf
   answered = rw accepted
 
   -- yes if and only if the quantities add up to the demand
-  pub yes-iff : (splitOf b rs .meets ≡ true) ↔ (bought rs ≡ b .demand)
-  yes-iff = (λ e. eqb-true (bought rs) (b .demand) (sym answered ∙ e), λ e. answered ∙ eq-eqb (bought rs) (b .demand) e)
+  pub yes-iff : (splitOf b rs .meets ≡ true) ↔ (bought rs ≡ b .order .demand .0)
+  yes-iff = (
+    λ e. let e′ = sym answered ∙ e in omega (arith, meets-low (b .order) (bought rs) e′, meets-high (b .order) (bought rs) e′),
+    λ e. answered ∙ meets-when (b .order) (bought rs) (omega arith) (omega arith),
+  )

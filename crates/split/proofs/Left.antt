@@ -22,6 +22,7 @@ use Rattle.refusal.specs.declared.Rule.the-variants.{SplitQuantity}
 use Rattle.refusal.specs.declared.Verdict.the-variants.{Accepted, Refused}
 use Rattle.supply.specs.Supply.{supplyOf, suppliesOf, offers, priceAt}
 use Rattle.supply.specs.Allocation.{bought, costOf}
+use Rattle.supply.specs.Meets.{meets}
 use Rattle.supply.specs.Sound.{mostBlanks}
 use Rattle.supply.proofs.Accepted.{mostCents, Small}
 use Rattle.split.specs.Split.{quantitiesVerdict, splitOf, refusedSplit}
@@ -115,7 +116,7 @@ module _ {book : Book} {rs : List ℕ} {price : ℤ} {sum i : ℕ} (left : Left 
 
     -- as many quantities as bids
     pub complete : length rs ≤ i
-        → record { verdict = Accepted; price = record { 0 = price }; meets = eqb sum (book .demand .0) } ≡ splitOf (bookEntries book) rs
+        → record { verdict = Accepted; price = record { 0 = price }; meets = meets (book .order) sum } ≡ splitOf (bookEntries book) rs
     unfolding costOf bought splitOf
     complete h =
         let over = drop-of-length-le rs h in

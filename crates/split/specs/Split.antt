@@ -2,7 +2,6 @@
 use Prim.Native.Nat.{ℕ, _+_}
 use mathlib.Core.Bool.{false}
 use mathlib.Core.List.{List, [], _∷_}
-use lib.Dec.{eqb}
 use lib.IntN.{pos}
 use Rattle.book.specs.Entries.{BidEntries, BookEntries}
 use Rattle.book.specs.Rules.{bookVerdict}
@@ -12,6 +11,7 @@ use Rattle.refusal.specs.declared.Verdict.{Verdict}
 use Rattle.refusal.specs.declared.Verdict.the-variants.{Accepted, Refused}
 use Rattle.supply.specs.Supply.{supplyOf, suppliesOf, offers}
 use Rattle.supply.specs.Allocation.{bought, costOf}
+use Rattle.supply.specs.Meets.{meets}
 use Rattle.split.specs.declared.SplitPrice.{SplitPrice}
 
 -- rule 11: the line of the first bid whose quantity is missing, or neither 0 nor on a segment; for a list too long and no
@@ -26,12 +26,12 @@ quantitiesVerdict line (b ∷ bs) (r ∷ rs) = firstOf (unless (offers (supplyOf
 unfoldable pub splitVerdict : BookEntries → List ℕ → Verdict
 splitVerdict b rs = firstOf (bookVerdict b ∷ quantitiesVerdict 2 (b .bids) rs ∷ [])
 
--- the price, and yes if and only if the quantities add up to the demand; price 0 and no beside a refusal
+-- the price, and yes if and only if the quantities add up to what the order takes; price 0 and no beside a refusal
 unfoldable pub splitOf : BookEntries → List ℕ → SplitPrice
 splitOf b rs = record {
   verdict = splitVerdict b rs;
   price = record { 0 = whenAccepted (splitVerdict b rs) (costOf (suppliesOf (b .bids)) rs) (pos 0) };
-  meets = whenAccepted (splitVerdict b rs) (eqb (bought rs) (b .demand)) false;
+  meets = whenAccepted (splitVerdict b rs) (meets (b .order) (bought rs)) false;
 }
 
 abbrev pub refusedSplit : Verdict → SplitPrice

@@ -13,7 +13,7 @@ use refusal::Rule;
 use refusal::Verdict;
 use supply::Offer;
 
-// The price of a split, and whether its quantities add up to the demand; 0 and no beside a
+// The price of a split, and whether its quantities add up to what the order takes; 0 and no beside a
 // refusal.
 pub struct SplitPrice {
     pub verdict: Verdict,
@@ -77,10 +77,11 @@ fn price_accepted(book: Book, quantities: &[u64]) -> SplitPrice
     if count < quantities.len() {
         return refused_at(count);
     }
-    let demand = book.demand.0;
+    let order = book.order;
+    let meets = supply::meets(order, Blanks(sum));
     SplitPrice {
         verdict: Verdict::Accepted,
         price,
-        meets: sum == demand,
+        meets,
     }
 }

@@ -6,3 +6,4 @@ pub mod Supplies
 pub mod Carriage
 pub mod Sound
 pub mod Accepted
+pub mod Orders

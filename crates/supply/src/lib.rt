@@ -7,11 +7,17 @@ ghost use Rattle.book.specs.Accepted.{AcceptedBid};
 ghost use Rattle.supply.specs.Supply.{on, segment0, delivered, supplyOf, offerOf, segmentNumber};
 ghost use Rattle.supply.specs.Places.{FoundAt};
 ghost use Rattle.supply.specs.Asked.{HasSegment};
+
+mod order;
+
 use book::Bid;
 use book::Segment;
 use money::Blanks;
 use money::Cents;
 use money::CentsPerBlank;
+pub use order::capped;
+pub use order::meets;
+pub use order::passes;
 
 // The price at which a bid offers a quantity, or that it does not offer it.
 pub enum Offer {

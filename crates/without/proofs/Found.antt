@@ -22,7 +22,7 @@ quantity-at n quantities i h =
     getD-take n (blanksIn quantities) i 0 h ∙ List·getD-map (λ (b : Blanks). b .0) quantities i (record { 0 = 0 })
 
 -- The search's answer for a record: a division, or that there is none.
-module _ (book : Book) (best : MaybeDivision) (searched : found (book .count) best ≡ awardOf (book .demand .0) (suppliesOf (bookEntries book .bids))) where
+module _ (book : Book) (best : MaybeDivision) (searched : found (book .count) best ≡ awardOf (book .order) (suppliesOf (bookEntries book .bids))) where
   pub award-some : best .found ≡ true → awardOfBook (bookEntries book) ≡ some (divisionIn (book .count) best)
   unfolding awardOfBook
   award-some h = sym searched ∙ rw h

@@ -14,17 +14,17 @@ use Rattle.without.specs.Without.{bookWithout}
 pub record Moved (at : ℕ) (book left : Book) (i : ℕ) : Type 0 where
   pub from : at ≤ i
   pub within : i + 1 ≤ book .count
-  pub demand : left .demand ≡ book .demand
+  pub order : left .order ≡ book .order
   pub count : left .count ≡ book .count - 1
   pub held : length (left .bids) ≡ 8
   pub bids : take i (left .bids) ≡ removed at (take (i + 1) (book .bids))
 
 module _ (at : ℕ) (book : Book) (few : book .count ≤ 8) (held : length (book .bids) ≡ 8) where
-  pub moved-none : at < book .count → Moved at book (record { demand = book .demand; count = book .count - 1; bids = book .bids }) at
+  pub moved-none : at < book .count → Moved at book (record { order = book .order; count = book .count - 1; bids = book .bids }) at
   moved-none h = record {
     from = omega arith;
     within = omega arith;
-    demand = refl;
+    order = refl;
     count = refl;
     held = held;
     bids = removed-start at (book .bids) (omega arith);
@@ -32,11 +32,11 @@ module _ (at : ℕ) (book : Book) (few : book .count ≤ 8) (held : length (book
 
   module _ (left : Book) (i : ℕ) (moved : Moved at book left i) where
     pub moved-next : i < book .count - 1
-        → Moved at book (record { demand = left .demand; count = left .count; bids = set (left .bids) i (getD (book .bids) (i + 1) noBid) }) (i + 1)
+        → Moved at book (record { order = left .order; count = left .count; bids = set (left .bids) i (getD (book .bids) (i + 1) noBid) }) (i + 1)
     moved-next h = record {
       from = omega (arith, moved .from);
       within = omega arith;
-      demand = moved .demand;
+      order = moved .order;
       count = moved .count;
       held = length-set (left .bids) i (getD (book .bids) (i + 1) noBid) ∙ moved .held;
       bids = removed-next at i (book .bids) (left .bids) noBid (moved .from) (omega arith) (omega (arith, moved .held)) (moved .bids);
@@ -53,4 +53,4 @@ module _ (at : ℕ) (book : Book) (few : book .count ≤ 8) (held : length (book
 
     pub moved-all : book .count - 1 ≤ i → bookEntries left ≡ bookWithout at (bookEntries book)
     unfolding bookWithout
-    moved-all h = rw (moved-bids h, moved .count, moved .demand)
+    moved-all h = rw (moved-bids h, moved .count, moved .order)

@@ -23,5 +23,5 @@ unfolding awardOfBook bookWithout totalWithout
 same-total b award is-award i bid e =
     let supplies = suppliesOf (b .bids) in
     let bidder : i < length supplies = omega (arith, length-map (b .bids) supplyOf) in
-    ap (λ left. totalOf (awardOf (b .demand) left)) (map-removed supplyOf i (b .bids))
-    ∙ ap totalOf (same-award (b .demand) supplies (all-map supplyOf SellsNothing (b .bids) (all-any _ sells-nothing (b .bids))) i bidder award is-award e)
+    ap (λ left. totalOf (awardOf (b .order) left)) (map-removed supplyOf i (b .bids))
+    ∙ ap totalOf (same-award (b .order) supplies (all-map supplyOf SellsNothing (b .bids) (all-any _ sells-nothing (b .bids))) i bidder award is-award e)

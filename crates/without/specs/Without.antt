@@ -16,7 +16,7 @@ use Rattle.award.specs.declared.Total.the-variants.{Amount, Nothing}
 
 -- the book less the bid with index i, the rest as it is
 unfoldable pub bookWithout : ℕ → BookEntries → BookEntries
-bookWithout i b = record { demand = b .demand; count = b .count - 1; bids = take i (b .bids) ++ drop (suc i) (b .bids) }
+bookWithout i b = record { order = b .order; count = b .count - 1; bids = take i (b .bids) ++ drop (suc i) (b .bids) }
 
 -- the price of the award, or `none` where there is none
 abbrev pub totalOf : Option Priced → Total

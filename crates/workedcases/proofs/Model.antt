@@ -29,7 +29,7 @@ use Rattle.clearing.specs.declared.Clearing.{Clearing}
 use Rattle.clearing.specs.Clearing.{rowsFrom, awardRecord, clearedBook, clearSampled, refusedClearing}
 
 abbrev searchedBook : BookEntries → Option Priced
-searchedBook b = searched (b .demand) (suppliesOf (b .bids))
+searchedBook b = searched (b .order) (suppliesOf (b .bids))
 
 abbrev modelRows : TableEntries → BookEntries → ℕ → List BidEntries → List ℕ → List Row
 modelRows table b i [] rs = []
@@ -41,7 +41,7 @@ modelCleared table b none = refusedClearing (Refused NotCovered 0)
 modelCleared table b (some award) = record {
   verdict = Accepted;
   award = record {
-    demand = record { 0 = b .demand };
+    demand = b .order .demand;
     total = record { 0 = award .cost };
     count = b .count;
     rows = padded 8 noRow (modelRows table b 0 (b .bids) (award .quantities));
@@ -54,7 +54,7 @@ modelOf table b = whenAccepted (bookVerdict b) (modelCleared table b (searchedBo
 -- the search finds the award of a book's bids
 found : (b : BookEntries) → All AcceptedBid (b .bids) → searchedBook b ≡ awardOfBook b
 unfolding awardOfBook
-found b bids = finds (b .demand) _ (sound-supplies (b .bids) bids)
+found b bids = finds (b .order) _ (sound-supplies (b .bids) bids)
 
 module _ (table : TableEntries) (b : BookEntries) (bids : All AcceptedBid (b .bids)) where
   bids-left : (i : ℕ) → All AcceptedBid (bookWithout i b .bids)
@@ -77,7 +77,7 @@ module _ (table : TableEntries) (b : BookEntries) (bids : All AcceptedBid (b .bi
   answers (some award) =
       ap (λ (l : List Row). record {
         verdict = Accepted;
-        award = record { demand = record { 0 = b .demand }; total = record { 0 = award .cost }; count = b .count; rows = padded 8 noRow l };
+        award = record { demand = b .order .demand; total = record { 0 = award .cost }; count = b .count; rows = padded 8 noRow l };
       }) (rows 0 (b .bids) (award .quantities))
 
 -- a book that is refused by rules 3 to 8 has one answer, and else the search decides

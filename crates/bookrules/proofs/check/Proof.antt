@@ -11,7 +11,7 @@ use Rattle.bookrules.proofs.check.Statement.{statement}
 use Rattle.bookrules.proofs.check.Tie as tie
 
 -- what each test shows
-demand-kept : (c : tie.Else1) → within 1 1000000 (c .before .before .args .book .demand .0) ≡ true
+demand-kept : (c : tie.Else1) → within 1 1000000 (c .before .before .args .book .order .demand .0) ≡ true
 demand-kept c = passed (c .before .within .ensures) (c .if1 .left)
 
 some-bid : (c : tie.Else2) → ltb 0 (c .before .before .before .args .book .count) ≡ true

@@ -6,14 +6,14 @@ use Rattle.charges.specs.Charge.{chargeAt, charge}
 use Rattle.charges.proofs.charge.Statement.{statement}
 use Rattle.charges.proofs.charge.Tie as tie
 
-abbrev start : tie.After-smaller2 → tie.Start
-start c = c .before .before .before .before .before
+abbrev start : tie.After-smaller → tie.Start
+start c = c .before .before .before .before .before .before
 
 returns : tie.Need-returns
 unfolding charge
 returns c =
-    let at-end = c .before .charge-at2 .ensures ∙ ap (chargeAt (start c .args .price .0) (start c .args .s)) (c .before .before .before .smaller .ensures) in
-    c .smaller2 .ensures ∙ ap₂ min (c .before .before .charge-at .ensures) at-end
+    let at-end = c .before .charge-at2 .ensures ∙ ap (chargeAt (start c .args .price .0) (start c .args .s)) (c .before .before .before .capped .ensures) in
+    c .smaller .ensures ∙ ap₂ min (c .before .before .charge-at .ensures) at-end
 
 pub charge-spec : {M : Type 1} → statement M
 charge-spec = tie.close (tie.spec (λ c κs. search needs) (λ c κs. search needs) (λ c κs. search needs) (λ c κs. search needs) returns)

@@ -16,11 +16,11 @@ use Rattle.completions.proofs.survey.Statement.{statement}
 use Rattle.completions.proofs.survey.Tie as tie
 
 abbrev Inv-loop : tie.InvT-loop
-Inv-loop table₀ prices book demand most₀ i₀ table most i =
-    (i ≤ book .count) × CoversFrom (book .demand .0) prices (suppliesOf (bookEntries book .bids)) (book .count) i table
+Inv-loop table₀ prices book order most₀ i₀ table most i =
+    (i ≤ book .count) × CoversFrom (book .order) prices (suppliesOf (bookEntries book .bids)) (book .count) i table
 
 abbrev μ-loop : tie.MeasureT-loop
-μ-loop table₀ prices book demand most₀ i₀ table most i = i
+μ-loop table₀ prices book order most₀ i₀ table most i = i
 
 held : (s : tie.Start Inv-loop μ-loop) → s .args .t2 .count ≤ length (s .args .t2 .bids)
 held s =

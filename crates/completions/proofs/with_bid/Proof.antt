@@ -16,11 +16,11 @@ use Rattle.completions.proofs.with_bid.Statement.{statement}
 use Rattle.completions.proofs.with_bid.Tie as tie
 
 abbrev Inv-loop : tie.InvT-loop
-Inv-loop table₀ at bid demand prices most j₀ table j =
-    (j ≤ bid .count + 1) × ExtendedByBid (demand .0) at prices (drop j (supplyOf (bidEntries bid))) table₀ table
+Inv-loop table₀ at bid order prices most j₀ table j =
+    (j ≤ bid .count + 1) × ExtendedByBid order at prices (drop j (supplyOf (bidEntries bid))) table₀ table
 
 abbrev μ-loop : tie.MeasureT-loop
-μ-loop table₀ at bid demand prices most j₀ table j = j
+μ-loop table₀ at bid order prices most j₀ table j = j
 
 abbrev start : tie.After-segment-of Inv-loop μ-loop → tie.Start Inv-loop μ-loop
 start c = c .before .before .before .before

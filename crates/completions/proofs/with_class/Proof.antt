@@ -1,7 +1,10 @@
--- By cases: an empty class has nothing, one that passes the demand has nothing within it, and else the sums of the two are added.
+-- By cases: an empty class has nothing, one that passes the order has nothing that it takes, and else the sums of the two are added.
 use Prim.Native.Nat.{_+_, _-_}
 use native.Mathlib.Omega.{arith}
-use mathlib.Core.Path.{_≡_}
+use mathlib.Core.Path.{_≡_, sym, _∙_}
+use borrow.Author.Needs.{needs}
+use borrow.Author.Tests.{ltb-true}
+use Rattle.supply.specs.Meets.{mostOf}
 use Rattle.charges.proofs.Sizes.{up-to-small, more-up-to}
 use Rattle.completions.proofs.Extending.{class-empty, class-above, class-added}
 use Rattle.completions.proofs.with_class.Statement.{statement}
@@ -24,7 +27,8 @@ returns-2 : tie.Need-returns-2
 returns-2 c =
     let sum = c .before .before .before in
     let s = sum .before .before .before in
-    class-above _ _ _ _ _ (s .pre .segment .graded) (rw (sum .plus .ensures) at (c .if2 .taken))
+    let above = ltb-true (mostOf (s .args .order)) (sum .plus .result .low .0) (sym (c .before .passes .ensures) ∙ c .if2 .taken) in
+    class-above _ _ _ _ _ (s .pre .segment .graded) (rw (sum .plus .ensures) at above)
 
 add-class-requires : tie.Need-add-class-requires
 add-class-requires c κs =
@@ -45,4 +49,4 @@ returns-3 : tie.Need-returns-3
 returns-3 c = class-added _ _ _ _ (rw (c .before .before .before .before .before .plus .ensures) at (c .add-class .ensures))
 
 pub with-class-spec : {M : Type 1} → statement M
-with-class-spec = tie.close (tie.spec returns plus-requires returns-2 add-class-requires returns-3)
+with-class-spec = tie.close (tie.spec returns plus-requires (λ c κs. search needs) returns-2 add-class-requires returns-3)

@@ -8,10 +8,10 @@ use Rattle.completions.proofs.with_segment.Statement.{statement}
 use Rattle.completions.proofs.with_segment.Tie as tie
 
 abbrev Inv-loop : tie.InvT-loop
-Inv-loop table₀ at more demand most i₀ table i = (i ≤ 32) × ExtendedBy (demand .0) at more i table₀ table
+Inv-loop table₀ at more order most i₀ table i = (i ≤ 32) × ExtendedBy order at more i table₀ table
 
 abbrev μ-loop : tie.MeasureT-loop
-μ-loop table₀ at more demand most i₀ table i = 32 - i
+μ-loop table₀ at more order most i₀ table i = 32 - i
 
 with-class-requires : tie.Need-with-class-requires Inv-loop μ-loop
 with-class-requires c κs =

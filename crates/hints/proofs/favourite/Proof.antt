@@ -7,10 +7,10 @@ use Rattle.hints.proofs.favourite.Statement.{statement}
 use Rattle.hints.proofs.favourite.Tie as tie
 
 abbrev Inv-loop : tie.InvT-loop
-Inv-loop bid demand price least₀ number₀ j₀ least number j = (j ≤ bid .count + 1) × (number ≤ bid .count)
+Inv-loop bid order price least₀ number₀ j₀ least number j = (j ≤ bid .count + 1) × (number ≤ bid .count)
 
 abbrev μ-loop : tie.MeasureT-loop
-μ-loop bid demand price least₀ number₀ j₀ least number j = j
+μ-loop bid order price least₀ number₀ j₀ least number j = j
 
 add-j : tie.Need-add-j Inv-loop μ-loop
 add-j c = omega (arith, c .before .pre .accepted .count-high)

@@ -7,10 +7,10 @@ use Rattle.hints.proofs.favourites.Statement.{statement}
 use Rattle.hints.proofs.favourites.Tie as tie
 
 abbrev Inv-loop : tie.InvT-loop
-Inv-loop price book demand numbers₀ i₀ numbers i = i ≤ book .count
+Inv-loop price book order numbers₀ i₀ numbers i = i ≤ book .count
 
 abbrev μ-loop : tie.MeasureT-loop
-μ-loop price book demand numbers₀ i₀ numbers i = book .count - i
+μ-loop price book order numbers₀ i₀ numbers i = book .count - i
 
 favourite-requires : tie.Need-favourite-requires Inv-loop μ-loop
 favourite-requires c κs =

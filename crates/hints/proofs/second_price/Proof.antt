@@ -1,7 +1,9 @@
 -- No unit price of an accepted bid is above the highest price, and three quarters of a price that is not above it are not either.
 use Prim.Native.Nat.{_-_, _≤_}
 use native.Mathlib.Omega.{arith}
+use mathlib.Core.Path.{_≡_}
 use borrow.Author.Needs.{needs}
+use lib.ListN.{length}
 use Rattle.lists.proofs.Slices.{length-held}
 use Rattle.charges.specs.Charge.{highest}
 use Rattle.hints.proofs.Hinted.{hinted-bid}
@@ -14,11 +16,14 @@ Inv-loop book division paid₀ i₀ paid i = (i ≤ book .count) × (paid .0 ≤
 abbrev μ-loop : tie.MeasureT-loop
 μ-loop book division paid₀ i₀ paid i = book .count - i
 
+held : (s : tie.Start Inv-loop μ-loop) → length (s .args .t1 .bids) ≡ 8
+held s = search (length-held, s .good)
+
 sold-on-requires : tie.Need-sold-on-requires Inv-loop μ-loop
 sold-on-requires c κs =
     let t = c .before .before in
     let s = t .before .before .before in
-    hinted-bid (s .args .t1) (s .args .price .0) (s .pre) (search (length-held, s .good)) (t .before .loop .i) (t .loop-test .taken) .accepted
+    hinted-bid (s .args .t1) (s .args .price .0) (s .pre) (held s) (t .before .loop .i) (t .loop-test .taken) .accepted
 
 loop-again : tie.Need-loop-again Inv-loop μ-loop
 loop-again c =

@@ -10,10 +10,10 @@ use Rattle.hints.proofs.sold.Statement.{statement}
 use Rattle.hints.proofs.sold.Tie as tie
 
 abbrev Inv-loop : tie.InvT-loop
-Inv-loop price book demand sum₀ i₀ sum i = i ≤ book .count
+Inv-loop price book order sum₀ i₀ sum i = i ≤ book .count
 
 abbrev μ-loop : tie.MeasureT-loop
-μ-loop price book demand sum₀ i₀ sum i = book .count - i
+μ-loop price book order sum₀ i₀ sum i = book .count - i
 
 -- what `favourite` asks of the bid of a turn of the loop
 asked : (c : tie.After-bid Inv-loop μ-loop) → let s = c .before .before .before .before in

@@ -50,17 +50,17 @@ cents-fit c = omega (arith, cents c, fits-size _ (fits (start (tested c))))
 -- what `dear` tells, of the sums and the cost
 told : (c : tie.After-a) (l : ℕ) (part : Sums → ℕ)
     → let a = start (tested c) .args in
-    Above (a .demand .0) (a .n) l (part (tested c .before .plus .result)) (c .before .magnitude .result) (a .ties)
-    → Above (a .demand .0) (a .n) l (part (sumsWith (a .sums) (a .class))) (natAbs (a .best .cost .0)) (a .ties)
+    Above (a .order) (a .n) l (part (tested c .before .plus .result)) (c .before .magnitude .result) (a .ties)
+    → Above (a .order) (a .n) l (part (sumsWith (a .sums) (a .class))) (natAbs (a .best .cost .0)) (a .ties)
 told c l part h =
     let a = start (tested c) .args in
     let x = tested c .before .plus .result in
-    subst (λ (y : Sums). Above (a .demand .0) (a .n) l (part y) (natAbs (a .best .cost .0)) (a .ties)) (tested c .before .plus .ensures)
-    (subst (λ (m : ℕ). Above (a .demand .0) (a .n) l (part x) m (a .ties)) (cents c) h)
+    subst (λ (y : Sums). Above (a .order) (a .n) l (part y) (natAbs (a .best .cost .0)) (a .ties)) (tested c .before .plus .ensures)
+    (subst (λ (m : ℕ). Above (a .order) (a .n) l (part x) m (a .ties)) (cents c) h)
 
 -- what `dear` asks, for a price and its charges
 asked : (c : tie.After-a) (l charged : ℕ) → l ≤ highest → charged ≤ mostCharge * 17
-    → Comparable (start (tested c) .args .demand .0) (start (tested c) .args .n) l charged (c .before .magnitude .result)
+    → Comparable (start (tested c) .args .order .demand .0) (start (tested c) .args .n) l charged (c .before .magnitude .result)
 asked c l charged capped most =
     let t = tested c in
     let near = t .apart .ensures .1 (c .before .before .before .before .before .if2 .left) in

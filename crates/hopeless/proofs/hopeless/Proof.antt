@@ -16,11 +16,11 @@ use Rattle.hopeless.proofs.hopeless.Statement.{statement}
 use Rattle.hopeless.proofs.hopeless.Tie as tie
 
 abbrev Inv-loop : tie.InvT-loop
-Inv-loop table at demand n prices sums ties best count i₀ i =
-    (i ≤ count) × ((k : ℕ) → k < i → Closed (demand .0) n prices sums (classAt table (32 * at + k)) ties best)
+Inv-loop table at order n prices sums ties best count i₀ i =
+    (i ≤ count) × ((k : ℕ) → k < i → Closed order n prices sums (classAt table (32 * at + k)) ties best)
 
 abbrev μ-loop : tie.MeasureT-loop
-μ-loop table at demand n prices sums ties best count i₀ i = count - i
+μ-loop table at order n prices sums ties best count i₀ i = count - i
 
 -- Places, seen from a turn: the start, and the class in turn.
 abbrev start : tie.In-loop Inv-loop μ-loop → tie.Start Inv-loop μ-loop
@@ -89,9 +89,9 @@ loop-again c =
     let a = start t .args in
     let i = t .before .loop .i in
     let closed = c .before .closed .ensures (not-false _ (c .if1 .left)) in
-    let this = subst (λ (x : Sums). Closed (a .demand .0) (a .n) (a .prices) (a .sums) x (a .ties) (a .best)) (c .before .before .class-at .ensures) closed in (
+    let this = subst (λ (x : Sums). Closed (a .order) (a .n) (a .prices) (a .sums) x (a .ties) (a .best)) (c .before .before .class-at .ensures) closed in (
       omega (arith, t .loop-test .taken),
-      up-to-this (λ (k : ℕ). Closed (a .demand .0) (a .n) (a .prices) (a .sums) (classAt (a .table .now) (32 * a .at + k)) (a .ties) (a .best)) i (t .before .loop .inv .1) this,
+      up-to-this (λ (k : ℕ). Closed (a .order) (a .n) (a .prices) (a .sums) (classAt (a .table .now) (32 * a .at + k)) (a .ties) (a .best)) i (t .before .loop .inv .1) this,
     )
 
 returns-2 : tie.Need-returns-2 Inv-loop μ-loop
@@ -100,7 +100,7 @@ returns-2 c =
     let a = c .before .before .before .args in
     let p = c .before .before .before .pre in
     let counted = c .before .before .class-count .ensures in
-    λ _. nothing-better (a .demand .0) (a .n) (a .prices) (a .table .now) (a .at) (a .sums) (a .ties) (a .best) (p .within)
+    λ _. nothing-better (a .order) (a .n) (a .prices) (a .table .now) (a .at) (a .sums) (a .ties) (a .best) (p .within)
     (λ left i e h.
     let same : a .n - a .at ≡ left = omega arith in
     let count = ap classCount same in

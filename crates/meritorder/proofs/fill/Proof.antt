@@ -46,7 +46,7 @@ at-end c =
 sub-t15 : tie.Need-sub-t15 Inv-loop μ-loop
 sub-t15 c =
     let s = c .before in
-    omega (arith, fits-low (s .args .demand .0) (chosen (s .args .t1)) (s .pre .fitting), s .pre .sound .carried .starts)
+    omega (arith, fits-low (s .args .order) (chosen (s .args .t1)) (s .pre .fitting), s .pre .sound .carried .starts)
 
 loop-holds : tie.Need-loop-holds Inv-loop μ-loop
 loop-holds c = filling-none _ _ _ refl
@@ -96,9 +96,9 @@ loop-again c =
 returns : tie.Need-returns Inv-loop μ-loop
 returns c =
     let s = c .before .before .before in
-    let demand = s .args .demand .0 in
-    let all = ap (λ (low : ℕ). demand - low) (s .pre .sound .carried .starts) in
-    (refl, filling-all (c .before .loop .inv) (omega arith) demand all)
+    let order = s .args .order in
+    let all = ap (λ (low : ℕ). order .demand .0 - low) (s .pre .sound .carried .starts) in
+    (refl, filling-all (c .before .loop .inv) (omega arith) order all)
 
 pub fill-spec : {M : Type 1} → statement M
 fill-spec =

@@ -82,13 +82,13 @@ R t = (
 )
 
 abbrev search-Inv-loop : search-lts.InvT-loop
-search-Inv-loop table prices c book demand n sums at left bid so-far₀ j₀ so-far j =
+search-Inv-loop table prices c book order n sums at left bid so-far₀ j₀ so-far j =
     let later = drop (c .count + 1) (suppliesOf (bookEntries book .bids)) in
     let from = drop j (supplyOf (bidEntries bid)) in
-    (j ≤ bid .count + 1) × (found (book .count) so-far ≡ each (tried (book .demand .0) later (chosen c)) from (found (book .count) so-far₀))
+    (j ≤ bid .count + 1) × (found (book .count) so-far ≡ each (tried (book .order) later (chosen c)) from (found (book .count) so-far₀))
 
 abbrev search-μ-loop : search-lts.MeasureT-loop
-search-μ-loop table prices c book demand n sums at left bid so-far₀ j₀ so-far j = j
+search-μ-loop table prices c book order n sums at left bid so-far₀ j₀ so-far j = j
 
 -- What is known of the book, and of the next bidder where there is one.
 
@@ -101,11 +101,11 @@ Judged t = search-lts.After-sums-of (R t) (search-at t) search′.Post search-In
 
 sums-now : (t : ℕ) (c : Judged t)
     → let a = c .before .before .args in
-    SumsOf (a .t1 .demand .0) (a .prices) (chosen (a .c)) (c .sums-of .result)
+    SumsOf (a .t1 .order) (a .prices) (chosen (a .c)) (c .sums-of .result)
 sums-now t c =
     let a = c .before .before .args in
     let p = c .before .before .pre .1 in
-    subst (SumsOf (a .t1 .demand .0) (a .prices) (chosen (a .c))) (sym (c .sums-of .ensures)) (sums-carried _ _ (a .c) (a .charged) (p .choice-of .choice) (p .charges-of))
+    subst (SumsOf (a .t1 .order) (a .prices) (chosen (a .c))) (sym (c .sums-of .ensures)) (sums-carried _ _ (a .c) (a .charged) (p .choice-of .choice) (p .charges-of))
 
 abbrev Bidder : ℕ → Type 0
 Bidder t = search-lts.Else1 (R t) (search-at t) search′.Post search-Inv-loop search-μ-loop
@@ -161,21 +161,21 @@ length-next t c = omega (arith, length-chosen (start t (bidder t c) .args .c))
 
 added : (t : ℕ) (c : search-lts.After-charged (R t) (search-at t) search′.Post search-Inv-loop search-μ-loop)
     → let s = start t (bidder t (c .before)) in
-    c .charged .result ≡ sumsOn (s .args .t1 .demand .0) (s .args .prices) (segment t (c .before))
+    c .charged .result ≡ sumsOn (s .args .t1 .order) (s .args .prices) (segment t (c .before))
 added t c =
     let s = start t (bidder t (c .before)) in
-    c .charged .ensures ∙ ap (sumsOn (s .args .t1 .demand .0) (s .args .prices)) (c .before .segment-of .ensures .1)
+    c .charged .ensures ∙ ap (sumsOn (s .args .t1 .order) (s .args .prices)) (c .before .segment-of .ensures .1)
 
 sums-with : (t : ℕ) (c : search-lts.After-plus (R t) (search-at t) search′.Post search-Inv-loop search-μ-loop)
     → let s = start t (bidder t (c .before .before)) in
-    SumsOf (s .args .t1 .demand .0) (s .args .prices) (segment t (c .before .before) ∷ chosen (s .args .c)) (c .plus .result)
+    SumsOf (s .args .t1 .order) (s .args .prices) (segment t (c .before .before) ∷ chosen (s .args .c)) (c .plus .result)
 sums-with t c =
     let s = start t (bidder t (c .before .before)) in
     let a = s .args in
     let l = segment t (c .before .before) in
     let j = judged t (bidder t (c .before .before)) in
     let same = c .plus .ensures ∙ ap (sumsWith (j .sums-of .result)) (added t (c .before)) in
-    subst (SumsOf (a .t1 .demand .0) (a .prices) (l ∷ chosen (a .c))) (sym same) (sums-next (a .t1 .demand .0) (a .prices) l (chosen (a .c)) _ (sums-now t j))
+    subst (SumsOf (a .t1 .order) (a .prices) (l ∷ chosen (a .c))) (sym same) (sums-next (a .t1 .order) (a .prices) l (chosen (a .c)) _ (sums-now t j))
 
 -- A turn is done: the best so far is r, that of one segment more.
 abbrev Done : (t : ℕ) → Turn t → MaybeDivision → Type 0
@@ -185,13 +185,13 @@ Done t c r =
     let later = drop (s .args .c .count + 1) (suppliesOf (bookEntries (s .args .t1) .bids)) in
     let from = drop (c .before .before .loop .j - 1) (supplyOf (bidEntries (bid t (bidder t c)))) in
     (c .before .before .loop .j - 1 ≤ bid t (bidder t c) .count + 1)
-    × (found n r ≡ each (tried (s .args .t1 .demand .0) later (chosen (s .args .c))) from (found n (s .args .best)))
+    × (found n r ≡ each (tried (s .args .t1 .order) later (chosen (s .args .c))) from (found n (s .args .best)))
 
 turn-done : (t : ℕ) (c : Turn t) (r : MaybeDivision)
     → let s = start t (bidder t c) in
     let n = s .args .t1 .count in
     let later = drop (s .args .c .count + 1) (suppliesOf (bookEntries (s .args .t1) .bids)) in
-    found n r ≡ tried (s .args .t1 .demand .0) later (chosen (s .args .c)) (segment t c) (found n (c .before .before .loop .so-far))
+    found n r ≡ tried (s .args .t1 .order) later (chosen (s .args .c)) (segment t c) (found n (c .before .before .loop .so-far))
     → Done t c r
 turn-done t c r found-next =
     let i = c .before .before .loop in
@@ -206,7 +206,7 @@ passed-over : (t : ℕ) (c : search-lts.After-plus (R t) (search-at t) search′
     → let l = c .before .before in
     let s = start t (bidder t l) in
     let so-far = l .before .before .loop .so-far in
-    NothingBetter (s .args .t1 .demand .0) (s .args .t1 .count) (s .args .prices) (s .args .table .now) (s .args .c .count + 1) (c .plus .result) false so-far
+    NothingBetter (s .args .t1 .order) (s .args .t1 .count) (s .args .prices) (s .args .table .now) (s .args .c .count + 1) (c .plus .result) false so-far
     → Done t l so-far
 passed-over t c nothing =
     let l = c .before .before in
@@ -273,7 +273,7 @@ search-plus-requires t c κs =
     let l = c .before in
     let s = start t (bidder t l) in
     let p = s .pre .1 in
-    let one = one-up-to (s .args .t1 .demand .0) (s .args .prices) (segment t l) (sound-segment t l) (p .capped) in
+    let one = one-up-to (s .args .t1 .order) (s .args .prices) (segment t l) (sound-segment t l) (p .capped) in
     record {
       left = up-to-small 8 _ (omega arith) (small-before t (bidder t l));
       right = up-to-small 1 _ (omega arith) (subst (UpTo 1) (sym (added t c)) one);
@@ -317,9 +317,9 @@ search-loop-again t c =
     let last : a .c .count + 1 ≡ b .count = omega (arith, c .before .if3 .taken, s .pre .1 .further) in
     let whole = h .choose .ensures .0 ∙ last in
     let found-next =
-    for-all (h .choose .result .count) (b .count) (c .leaf .result) so-far (leaf (b .demand .0) (chosen (h .choose .result))) whole (c .leaf .ensures)
-    ∙ ap (λ (x : List Segment). leaf (b .demand .0) x (found (b .count) so-far)) (chosen-now t h)
-    ∙ sym (bidders-done (b .bids) (b .count) (held t s) (b .demand .0) (a .c .count + 1) _ _ (omega (arith, last))) in
+    for-all (h .choose .result .count) (b .count) (c .leaf .result) so-far (leaf (b .order) (chosen (h .choose .result))) whole (c .leaf .ensures)
+    ∙ ap (λ (x : List Segment). leaf (b .order) x (found (b .count) so-far)) (chosen-now t h)
+    ∙ sym (bidders-done (b .bids) (b .count) (held t s) (b .order) (a .c .count + 1) _ _ (omega (arith, last))) in
     turn-done t l (c .leaf .result) found-next
 
 search-search-requires : (t : ℕ) → search-lts.Need-search-requires (R t) (search-at t) search′.Post search-Inv-loop search-μ-loop
@@ -334,7 +334,7 @@ search-search-requires t c κs =
     let next = h .choose .ensures in
     let count = next .0 in
     let other = c .before .if3 .left in
-    let charges = subst (λ (c : List Segment). ChargesOf (s .args .t1 .demand .0) (s .args .prices) c (chargesIn (w .plus .result))) (sym (chosen-now t h)) (charges-among (sums-with t w)) in
+    let charges = subst (λ (c : List Segment). ChargesOf (s .args .t1 .order) (s .args .prices) c (chargesIn (w .plus .result))) (sym (chosen-now t h)) (charges-among (sums-with t w)) in
     let of : ChoiceOf (s .args .t1) (h .choose .result) = record { searchable = p .choice-of .searchable; choice = next .1 .1; within = omega arith } in
     (omega arith, record { choice-of = of; further = omega arith; capped = p .capped; surveyed = p .surveyed; charges-of = rw (c .charges-in .ensures) charges })
 
@@ -358,7 +358,7 @@ search-returns-2 t c =
     let a = s .args in
     let b = a .t1 in
     each-all _ (supplyOf (bidEntries (bid t e))) _ (i .j) (omega (arith, c .loop-test .left)) _ (i .inv .1)
-    ∙ sym (bidders-next (b .bids) (b .count) (held t s) (b .demand .0) (a .c .count) (chosen (a .c)) (found (b .count) (a .best)) (further t e))
+    ∙ sym (bidders-next (b .bids) (b .count) (held t s) (b .order) (a .c .count) (chosen (a .c)) (found (b .count) (a .best)) (further t e))
 
 pub +search-spec : {M : Type 1} → statement M
 +search-spec = close μ-search λ t. search-lts.spec (R t)

@@ -8,6 +8,7 @@ use mathlib.Core.Path.{_≡_, refl, sym, _∙_}
 use borrow.Author.Needs.{needs}
 use lib.ListN.{length, drop}
 use Rattle.book.specs.declared.Segment.{Segment}
+use Rattle.book.specs.declared.Order.{Order}
 use Rattle.book.specs.Entries.{bookEntries}
 use Rattle.supply.specs.Supply.{suppliesOf}
 use Rattle.supply.proofs.Accepted.{sound-supplies}
@@ -26,9 +27,9 @@ use Rattle.search.proofs.best_division.Statement.{statement}
 use Rattle.search.proofs.best_division.Tie as tie
 
 -- what the search from no choice gives is that of the model
-from-no-choice : (demand : ℕ) (supplies : List (List Segment)) (c : Choice) (o : Option Priced) → c .count ≡ 0
-    → searchFrom demand (drop (c .count) supplies) (chosen c) o ≡ searchFrom demand supplies [] o
-from-no-choice demand supplies c o e = rw (nothing-chosen c e, e)
+from-no-choice : (order : Order) (supplies : List (List Segment)) (c : Choice) (o : Option Priced) → c .count ≡ 0
+    → searchFrom order (drop (c .count) supplies) (chosen c) o ≡ searchFrom order supplies [] o
+from-no-choice order supplies c o e = rw (nothing-chosen c e, e)
 
 leaf-requires : tie.Need-leaf-requires
 leaf-requires c κs = c .before .nothing-sold .ensures .1 .1
@@ -40,18 +41,18 @@ returns c =
     let t = c .before .before .before .before in
     let s = t .before .before in
     let book = s .args .book in
-    let demand = book .demand .0 in
+    let order = book .order in
     let supplies = suppliesOf (bookEntries book .bids) in
     let nobody : book .count ≡ 0 = t .if1 .taken in
     let held : book .count ≤ length (book .bids) = omega arith in
     let same : empty .result .count ≡ book .count = omega (arith, empty .ensures .0) in
     let o = found (book .count) (none .result) in
-    let started : Started demand supplies o = inl (rw (none .ensures)) in
-    for-all (empty .result .count) (book .count) (c .leaf .result) (none .result) (leaf demand (chosen (empty .result))) same (c .leaf .ensures)
-    ∙ sym (bidders-done (book .bids) (book .count) held demand (empty .result .count) (chosen (empty .result)) o (omega arith))
-    ∙ from-no-choice demand supplies (empty .result) o (empty .ensures .0)
-    ∙ from-started demand supplies o started
-    ∙ finds demand supplies (sound-supplies (bookEntries book .bids) (s .pre .bids))
+    let started : Started order supplies o = inl (rw (none .ensures)) in
+    for-all (empty .result .count) (book .count) (c .leaf .result) (none .result) (leaf order (chosen (empty .result))) same (c .leaf .ensures)
+    ∙ sym (bidders-done (book .bids) (book .count) held order (empty .result .count) (chosen (empty .result)) o (omega arith))
+    ∙ from-no-choice order supplies (empty .result) o (empty .ensures .0)
+    ∙ from-started order supplies o started
+    ∙ finds order supplies (sound-supplies (bookEntries book .bids) (s .pre .bids))
 
 survey-requires : tie.Need-survey-requires
 survey-requires c κs =
@@ -78,14 +79,14 @@ returns-2 c =
     let b = c .before .before .before .before .before .before .before in
     let s = b .before .before .before in
     let book = s .args .book in
-    let demand = book .demand .0 in
+    let order = book .order in
     let supplies = suppliesOf (bookEntries book .bids) in
     let empty = c .before .nothing-sold2 in
     let o = found (book .count) (b .begin .result .best) in
     c .search .ensures
-    ∙ from-no-choice demand supplies (empty .result) o (empty .ensures .0)
-    ∙ from-started demand supplies o (b .begin .ensures .1)
-    ∙ finds demand supplies (sound-supplies (bookEntries book .bids) (s .pre .bids))
+    ∙ from-no-choice order supplies (empty .result) o (empty .ensures .0)
+    ∙ from-started order supplies o (b .begin .ensures .1)
+    ∙ finds order supplies (sound-supplies (bookEntries book .bids) (s .pre .bids))
 
 pub best-division-spec : {M : Type 1} → statement M
 best-division-spec =

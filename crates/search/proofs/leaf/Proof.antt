@@ -11,7 +11,7 @@ use Rattle.search.proofs.leaf.Tie as tie
 returns : tie.Need-returns
 returns c =
     let a = c .before .before .args in
-    unfit (a .demand .0) (chosen (a .c)) (found (a .c .count) (a .best)) (failed (c .before .fits2 .ensures) (c .if1 .taken))
+    unfit (a .order) (chosen (a .c)) (found (a .c .count) (a .best)) (failed (c .before .fits2 .ensures) (c .if1 .taken))
 
 fill-requires : tie.Need-fill-requires
 fill-requires c κs = record { sound = c .before .before .pre; fitting = passed (c .before .fits2 .ensures) (c .if1 .left) }
@@ -23,7 +23,7 @@ returns-2 c =
     let a = e .before .before .args in
     let n = a .c .count in
     let fitting = passed (e .before .fits2 .ensures) (e .if1 .left) in
-    c .pick .ensures ∙ fit (a .demand .0) (chosen (a .c)) (found n (a .best)) fitting (divisionIn n (new .result)) (new .ensures .1)
+    c .pick .ensures ∙ fit (a .order) (chosen (a .c)) (found n (a .best)) fitting (divisionIn n (new .result)) (new .ensures .1)
 
 pub leaf-spec : {M : Type 1} → statement M
 leaf-spec = tie.close (tie.spec (λ c κs. search needs) returns fill-requires (λ c κs. search needs) returns-2)

@@ -1,6 +1,6 @@
 -- The quantities before `i` are on offer and added up with their prices, so those left decide; the first fault is the answer.
 use Prim.Native.Nat.{ℕ, _+_, _≤_, _<_, _-_}
-use mathlib.Core.Bool.{true}
+use mathlib.Core.Bool.{Bool, true}
 use mathlib.Core.Path.{_≡_, sym, ap, _∙_}
 use native.Mathlib.Omega.{arith}
 use borrow.Author.Needs.{needs}
@@ -11,7 +11,7 @@ use Rattle.book.specs.Accepted.{AcceptedBid}
 use Rattle.book.proofs.Records.{noBid}
 use Rattle.book.proofs.Accepted.{few-bids, bid-at}
 use Rattle.refusal.specs.declared.Rule.the-variants.{SplitQuantity}
-use Rattle.refusal.specs.declared.Verdict.the-variants.{Refused}
+use Rattle.refusal.specs.declared.Verdict.the-variants.{Accepted, Refused}
 use Rattle.supply.specs.Supply.{supplyOf, offers, priceAt}
 use Rattle.supply.proofs.Offers.{offered, not-offered}
 use Rattle.supply.proofs.Accepted.{Small, supply-small}
@@ -118,9 +118,11 @@ returns-3 c =
 
 returns-4 : tie.Need-returns-4 Inv-loop μ-loop
 returns-4 c =
-    let l = c .before in
+    let e = c .before .before in
+    let l = e .before in
     let at = l .before in
-    complete (at .loop .inv) (start at .pre) (l .loop-test .left) (omega (arith, c .if2 .left, l .loop-test .left))
+    let all = complete (at .loop .inv) (start at .pre) (l .loop-test .left) (omega (arith, e .if2 .left, l .loop-test .left)) in
+    ap (λ (yes : Bool). record { verdict = Accepted; price = at .loop .price; meets = yes }) (c .meets .ensures) ∙ all
 
 pub price-accepted-spec : {M : Type 1} → statement M
 price-accepted-spec =
@@ -146,4 +148,5 @@ price-accepted-spec =
     loop-again
     (λ c κs. few (c .before .before))
     returns-3
+    (λ c κs. search needs)
     returns-4)

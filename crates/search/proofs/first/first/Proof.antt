@@ -19,11 +19,11 @@ use Rattle.search.proofs.first.first.Statement.{statement}
 use Rattle.search.proofs.first.first.Tie as tie
 
 abbrev Inv-loop : tie.InvT-loop
-Inv-loop book demand c so-far₀ k₀ so-far k =
-    (k ≤ 7 * book .count) × Started (book .demand .0) (suppliesOf (bookEntries book .bids)) (found (book .count) so-far)
+Inv-loop book order c so-far₀ k₀ so-far k =
+    (k ≤ 7 * book .count) × Started (book .order) (suppliesOf (bookEntries book .bids)) (found (book .count) so-far)
 
 abbrev μ-loop : tie.MeasureT-loop
-μ-loop book demand c so-far₀ k₀ so-far k = 7 * book .count - k
+μ-loop book order c so-far₀ k₀ so-far k = 7 * book .count - k
 
 -- the start, seen from a turn
 abbrev start : tie.In-loop Inv-loop μ-loop → tie.Start Inv-loop μ-loop
@@ -58,8 +58,8 @@ loop-again c =
     let other = c .before .with-number in
     let from = from-exchanged b (s .pre .searchable) (held s) (t .before .before .choice-of .ensures) _ (bidder t) (other .result) (other .ensures) in
     let count : other .result .count ≡ b .count = from .all ∙ length-supplies (b .bids) (b .count) (held s) in
-    let best = for-all (other .result .count) (b .count) (c .leaf .result) (i .so-far) (leaf (b .demand .0) (chosen (other .result))) count (c .leaf .ensures) in
-    let next = started-leaf (b .demand .0) (suppliesOf (bookEntries b .bids)) (chosen (other .result)) (found (b .count) (i .so-far)) (complete-leaf from (b .demand .0)) (i .inv .1) in
+    let best = for-all (other .result .count) (b .count) (c .leaf .result) (i .so-far) (leaf (b .order) (chosen (other .result))) count (c .leaf .ensures) in
+    let next = started-leaf (b .order) (suppliesOf (bookEntries b .bids)) (chosen (other .result)) (found (b .count) (i .so-far)) (complete-leaf from (b .order)) (i .inv .1) in
     (omega (arith, t .loop-test .taken), rw best next)
 
 pub first-spec : {M : Type 1} → statement M

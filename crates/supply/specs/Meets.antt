@@ -1,0 +1,13 @@
+-- Which numbers of blanks an order takes: document 01, section "Price and allocation". Divisions, splits and the search go by this alone.
+use Prim.Native.Nat.{ℕ}
+use mathlib.Core.Bool.{Bool}
+use Rattle.book.specs.declared.Order.{Order}
+use Rattle.book.specs.Rules.{within}
+
+-- the most blanks that it takes
+abbrev pub mostOf : Order → ℕ
+mostOf order = order .demand .0
+
+-- at least the demand, and at most the most
+unfoldable pub meets : Order → ℕ → Bool
+meets order n = within (order .demand .0) (mostOf order) n

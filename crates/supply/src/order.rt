@@ -1,0 +1,34 @@
+// Which numbers of blanks an order takes.
+ghost use mathlib.Core.Path.{_≡_};
+ghost use Prim.Native.Nat.{min};
+ghost use lib.Dec.{ltb};
+ghost use Rattle.supply.specs.Meets.{mostOf, meets};
+use book::Order;
+use money::Blanks;
+
+// Whether so many are more than the order takes.
+pub fn passes(order: Order, blanks: Blanks) -> bool
+    ensures { λ r. ⌜ r ≡ ltb (mostOf order) (blanks .0) ⌝ }
+{
+    order.demand.0 < blanks.0
+}
+
+// Whether it takes so many.
+pub fn meets(order: Order, blanks: Blanks) -> bool
+    ensures { λ r. ⌜ r ≡ meets order (blanks .0) ⌝ }
+{
+    if passes(order, blanks) {
+        return false;
+    }
+    order.demand.0 <= blanks.0
+}
+
+// So many, or the most that it takes where that is less.
+pub fn capped(order: Order, blanks: Blanks) -> Blanks
+    ensures { λ r. ⌜ r .0 ≡ min (blanks .0) (mostOf order) ⌝ }
+{
+    if passes(order, blanks) {
+        return Blanks(order.demand.0);
+    }
+    blanks
+}
