@@ -31,7 +31,7 @@ use Rattle.award.specs.Award.{noRow, rowOf}
 use Rattle.without.specs.Without.{bookWithout, totalOf, totalWithout}
 use Rattle.without.proofs.Same.{same-total}
 use Rattle.clearing.specs.declared.Clearing.{Clearing}
-use Rattle.clearing.specs.Clearing.{clearSampled}
+use Rattle.clearing.specs.Clearing.{awardRecord, clearSampled}
 use Rattle.clearing.proofs.Answers.{no-division, division}
 use Rattle.awardtheorems.specs.OfBook.{DivisionOf, IsAwardOf}
 use Rattle.awardtheorems.specs.Awarded.{rowAt, awarded}
@@ -122,6 +122,11 @@ module _ (table : TableEntries) (book : Book) (held : length (book .bids) ≡ 8)
     -- whom the two differ; the total is its cost
     pub no-other-cheaper : IsAwardOf b (awarded (answer .award))
     no-other-cheaper = subst (IsAwardOf b) (sym says) is-award
+
+    -- what is bought is what the bidders sell
+    pub bought-is : answer .award .bought .0 ≡ bought (awarded (answer .award) .quantities)
+    unfolding awardRecord
+    bought-is = ap (λ (x : Clearing). x .award .bought .0) (c .answer) ∙ sym (no-other-cheaper .division .meets)
 
     -- the row of each bid is that of what it sells; the rows past the bids are zeros and `none`
     pub row-is : (i : ℕ) → i < b .count
