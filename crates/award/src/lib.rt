@@ -28,7 +28,7 @@ pub struct Row {
     pub without: Total,
 }
 
-// The first `count` rows are those of the bids, in book order; the others are zeros and `Nothing`.
+// `bought` is what all bidders sell. The first `count` rows are those of the bids, in book order; the others are zeros and `Nothing`.
 pub struct Award {
     pub demand: Blanks,
     pub bought: Blanks,

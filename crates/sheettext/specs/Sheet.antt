@@ -28,7 +28,7 @@ rowText row =
     ++ ascii " (without " ++ totalText (row .without)
     ++ ascii "))\n"
 
--- demand, what is bought, and total price
+-- demand, what is bought, and total price (document 02, change 5)
 unfoldable pub firstText : Award → List ℕ
 firstText award =
     ascii "(award " ++ digits (award .demand .0)
