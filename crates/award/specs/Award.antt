@@ -23,7 +23,13 @@ noRow = record {
 }
 
 abbrev pub noAward : Award
-noAward = record { demand = record { 0 = 0 }; total = record { 0 = pos 0 }; count = 0; rows = replicate 8 noRow }
+noAward = record {
+  demand = record { 0 = 0 };
+  bought = record { 0 = 0 };
+  total = record { 0 = pos 0 };
+  count = 0;
+  rows = replicate 8 noRow;
+}
 
 -- bidder, segment, quantity, price, blanks to sample by the table, and the total without the bidder
 unfoldable pub rowOf : TableEntries → BidEntries → ℕ → Total → Row

@@ -28,9 +28,10 @@ pub struct Row {
     pub without: Total,
 }
 
-// The first `count` rows are those of the bids, in book order; the others are zeros and `Nothing`.
+// `bought` is what all bidders sell. The first `count` rows are those of the bids, in book order; the others are zeros and `Nothing`.
 pub struct Award {
     pub demand: Blanks,
+    pub bought: Blanks,
     pub total: Cents,
     pub count: usize,
     pub rows: [Row; 8],
@@ -57,6 +58,7 @@ pub fn no_award() -> Award
     let row = no_row();
     Award {
         demand: Blanks(0),
+        bought: Blanks(0),
         total: Cents(0),
         count: 0,
         rows: [row; 8],

@@ -21,7 +21,7 @@ Answered cleared rows answer exit = (answer ≡ numbersAnswer cleared (length ro
 
 -- zeros beside a refusal
 abbrev blank : Verdict → AwardNumbers
-blank verdict = record { verdict = verdict; total = 0; count = 0 }
+blank verdict = record { verdict = verdict; bought = 0; total = 0; count = 0 }
 
 module _ (rows : List ℕ) (cleared : Clearing) where
   pub refused-before : (rule : Rule) (place : ℕ) → cleared .verdict ≡ Refused rule place → (answer : AwardNumbers)
@@ -37,7 +37,7 @@ module _ (rows : List ℕ) (cleared : Clearing) where
 
     pub in-full : 7 * cleared .award .count ≤ length rows → (total : ℕ) → total ≡ natAbs (cleared .award .total .0) → (exit : List ℕ)
         → exit ≡ written rows 0 (awardNumbers (cleared .award))
-        → Answered cleared rows (record { verdict = cleared .verdict; total = total; count = cleared .award .count }) exit
+        → Answered cleared rows (record { verdict = cleared .verdict; bought = cleared .award .bought .0; total = total; count = cleared .award .count }) exit
     unfolding numbersVerdict numbersOutput
     in-full h total e exit f = rw (e, f, told, le-leb (7 * cleared .award .count) (length rows) h) (refl, refl)
 

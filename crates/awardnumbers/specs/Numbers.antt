@@ -24,6 +24,9 @@ numbersVerdict cleared size =
     let count = cleared .award .count in
     firstOf (cleared .verdict ∷ unless (leb (7 * count) size) OutputLength (56 * count) ∷ [])
 
+abbrev pub numbersBought : Clearing → ℕ → ℕ
+numbersBought cleared size = whenAccepted (numbersVerdict cleared size) (cleared .award .bought .0) 0
+
 abbrev pub numbersTotal : Clearing → ℕ → ℕ
 numbersTotal cleared size = whenAccepted (numbersVerdict cleared size) (natAbs (cleared .award .total .0)) 0
 
@@ -33,6 +36,7 @@ numbersCount cleared size = whenAccepted (numbersVerdict cleared size) (cleared 
 abbrev pub numbersAnswer : Clearing → ℕ → AwardNumbers
 numbersAnswer cleared size = record {
   verdict = numbersVerdict cleared size;
+  bought = numbersBought cleared size;
   total = numbersTotal cleared size;
   count = numbersCount cleared size;
 }
@@ -49,6 +53,9 @@ FewRows cleared = cleared .verdict ≡ Accepted → cleared .award .count ≤ 8
 
 abbrev pub awardVerdict : List ℕ → ℕ → Verdict
 awardVerdict t = numbersVerdict (clearText t)
+
+abbrev pub awardBought : List ℕ → ℕ → ℕ
+awardBought t = numbersBought (clearText t)
 
 abbrev pub awardTotal : List ℕ → ℕ → ℕ
 awardTotal t = numbersTotal (clearText t)

@@ -7,18 +7,20 @@ use clearing::Clearing;
 use refusal::Rule;
 use refusal::Verdict;
 
-// The total of an award and the number of its bids; zeros beside a refusal.
+// What an award buys, its total and the number of its bids; zeros beside a refusal.
 pub struct AwardNumbers {
     pub verdict: Verdict,
+    pub bought: u64,
     pub total: u64,
     pub count: u64,
 }
 
 fn refused(verdict: Verdict) -> AwardNumbers
-    ensures { λ r. ⌜ r ≡ record { verdict = verdict; total = 0; count = 0 } ⌝ }
+    ensures { λ r. ⌜ r ≡ record { verdict = verdict; bought = 0; total = 0; count = 0 } ⌝ }
 {
     AwardNumbers {
         verdict,
+        bought: 0,
         total: 0,
         count: 0,
     }
@@ -43,6 +45,7 @@ fn numbers(cleared: Clearing, rows: &mut [u64]) -> AwardNumbers
     let total = award.total;
     AwardNumbers {
         verdict,
+        bought: award.bought.0,
         total: money::magnitude(total),
         count: count as u64,
     }

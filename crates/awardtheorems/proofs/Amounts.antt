@@ -1,5 +1,5 @@
 -- The numbers of an award: no price is negative, and how large each number can be. Assumes nothing.
-use Prim.Native.Nat.{ℕ, zero, suc, _≤_, _<_}
+use Prim.Native.Nat.{ℕ, zero, suc, _*_, _≤_, _<_}
 use native.Mathlib.Nat.{le-of-suc-le-suc, not-suc-le-zero}
 use native.Mathlib.Omega.{arith}
 use mathlib.Core.Bool.{true}
@@ -24,6 +24,7 @@ use Rattle.sampling.specs.Sampling.{sampleOf}
 use Rattle.supply.specs.Supply.{supplyOf, suppliesOf, offers}
 use Rattle.supply.specs.Sound.{mostBlanks}
 use Rattle.supply.proofs.Supply.{number-few}
+use Rattle.supply.proofs.Orders.{meets-high}
 use Rattle.supply.proofs.Accepted.{mostCents, supply-small}
 use Rattle.divisions.specs.Division.{Allocation}
 use Rattle.divisions.specs.Award.{Priced, awardOfBook}
@@ -37,7 +38,7 @@ use Rattle.awardtheorems.specs.Awarded.{rowAt, awarded}
 use Rattle.awardtheorems.proofs.Answers.{cleared}
 use Rattle.awardtheorems.proofs.Counts.{few-bids, bids-within, bids-counted}
 use Rattle.awardtheorems.proofs.Costs.{UpTo, price-up-to, mostTotal, award-up-to}
-use Rattle.awardtheorems.proofs.Cleared.{award-of-book, no-other-cheaper, row-is}
+use Rattle.awardtheorems.proofs.Cleared.{award-of-book, no-other-cheaper, bought-is, row-is}
 
 -- what a bidder of an allocation is given, it offers
 offered-at : (bids : List BidEntries) (rs : List ℕ) (d : BidEntries) → Allocation (suppliesOf bids) rs → (i : ℕ) → i < length bids
@@ -103,10 +104,15 @@ module _ (table : TableEntries) (book : Book) (held : length (book .bids) ≡ 8)
   bids : All AcceptedBid (b .bids)
   bids = all-accepted b is-accepted
 
-  -- the demand, the total and every row
+  -- the demand, what is bought, the total and every row
   pub demand-up-to : clearSampled table b .award .demand .0 ≤ mostBlanks
   unfolding awardRecord
   demand-up-to = rw (cleared table b accepted .answer) (book-accepted b is-accepted .demand-high)
+
+  pub bought-up-to : clearSampled table b .award .bought .0 ≤ 2 * mostBlanks
+  bought-up-to =
+      let sold = meets-high (b .order) _ (no-other-cheaper table book held accepted .division .sum) in
+      omega (arith, bought-is table book held accepted, sold, book-accepted b is-accepted .demand-high)
 
   pub total-from-zero : UpTo mostTotal (clearSampled table b .award .total .0)
   total-from-zero = award-up-to b bids few (awarded (clearSampled table b .award)) (no-other-cheaper table book held accepted)

@@ -20,7 +20,7 @@ use Rattle.sampling.specs.Entries.{TableEntries}
 use Rattle.supply.specs.Supply.{suppliesOf}
 use Rattle.supply.specs.Allocation.{bought}
 use Rattle.supply.proofs.Accepted.{sound-supplies}
-use Rattle.supply.proofs.Orders.{meets-low}
+use Rattle.supply.proofs.Orders.{meets-low, meets-high}
 use Rattle.divisions.specs.Division.{Allocation}
 use Rattle.divisions.specs.Award.{Priced, awardOfBook}
 use Rattle.divisions.specs.IsAward.{insideCount}
@@ -32,7 +32,7 @@ use Rattle.award.specs.Award.{noRow, rowOf}
 use Rattle.without.specs.Without.{bookWithout, totalOf, totalWithout}
 use Rattle.without.proofs.Same.{same-total}
 use Rattle.clearing.specs.declared.Clearing.{Clearing}
-use Rattle.clearing.specs.Clearing.{clearSampled}
+use Rattle.clearing.specs.Clearing.{awardRecord, clearSampled}
 use Rattle.clearing.proofs.Answers.{no-division, division}
 use Rattle.awardtheorems.specs.OfBook.{DivisionOf, IsAwardOf}
 use Rattle.awardtheorems.specs.Awarded.{rowAt, awarded}
@@ -123,6 +123,15 @@ module _ (table : TableEntries) (book : Book) (held : length (book .bids) ≡ 8)
     -- whom the two differ; the total is its cost
     pub no-other-cheaper : IsAwardOf b (awarded (answer .award))
     no-other-cheaper = subst (IsAwardOf b) (sym says) is-award
+
+    -- what is bought is what the bidders sell
+    pub bought-is : answer .award .bought .0 ≡ bought (awarded (answer .award) .quantities)
+    unfolding awardRecord
+    bought-is =
+        let rs = awarded (answer .award) .quantities in
+        let d = no-other-cheaper .division .sum in
+        let sold : b .order .demand .0 ≡ bought rs = omega (arith, meets-low (b .order) (bought rs) d, meets-high (b .order) (bought rs) d) in
+        ap (λ (x : Clearing). x .award .bought .0) (c .answer) ∙ sold
 
     -- the row of each bid is that of what it sells; the rows past the bids are zeros and `none`
     pub row-is : (i : ℕ) → i < b .count

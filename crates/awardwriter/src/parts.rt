@@ -8,7 +8,7 @@ use award::Award;
 use award::Row;
 use lines::Part;
 
-// Demand and total price.
+// Demand, what is bought, and total price.
 pub fn first_line(layout: Layout, award: Award) -> [Part; 8]
     ensures { λ r. ⌜ joined partText r ≡ layoutFirst layout award ⌝ }
 {

@@ -6,7 +6,7 @@ ghost use lib.ListN.{length};
 ghost use Rattle.refusal.specs.Number.{numberOf, placeOf};
 ghost use Rattle.bookanswers.specs.BookAnswers.{bookWritten, bookOutput, roomText, splitText};
 ghost use Rattle.tender.specs.FromText.{sheetWritten, sheetOutput, pageWritten, pageOutput};
-ghost use Rattle.awardnumbers.specs.Numbers.{awardVerdict, awardTotal, awardCount, awardOutput};
+ghost use Rattle.awardnumbers.specs.Numbers.{awardVerdict, awardBought, awardTotal, awardCount, awardOutput};
 
 // Those with a sampling table.
 mod tables;
@@ -114,17 +114,19 @@ pub extern "C" fn boccelarch_split(
     refusal::number(verdict)
 }
 
-// The award as numbers: its total, how many bids there are, and seven numbers for each (`rowNumbers`).
+// The award as numbers: what is bought, its total, how many bids there are, and seven numbers for each (`rowNumbers`).
 #[no_mangle]
 pub extern "C" fn boccelarch_award(
     text: &[u8],
     rows: &mut [u64],
     place: &mut u64,
+    bought: &mut u64,
     total: &mut u64,
     count: &mut u64,
 ) -> u64
     ensures { λ r. ⌜ r ≡ numberOf (awardVerdict (now (text .entry)) (length (now (rows .entry)))) ⌝ }
     ensures { λ _. ⌜ now (place .exit) ≡ placeOf (awardVerdict (now (text .entry)) (length (now (rows .entry)))) ⌝ }
+    ensures { λ _. ⌜ now (bought .exit) ≡ awardBought (now (text .entry)) (length (now (rows .entry))) ⌝ }
     ensures { λ _. ⌜ now (total .exit) ≡ awardTotal (now (text .entry)) (length (now (rows .entry))) ⌝ }
     ensures { λ _. ⌜ now (count .exit) ≡ awardCount (now (text .entry)) (length (now (rows .entry))) ⌝ }
     ensures { λ _. ⌜ now (rows .exit) ≡ awardOutput (now (text .entry)) (now (rows .entry)) ⌝ }
@@ -132,6 +134,7 @@ pub extern "C" fn boccelarch_award(
     let answer = awardnumbers::award(text, rows);
     let verdict = answer.verdict;
     *place = refusal::place(verdict);
+    *bought = answer.bought;
     *total = answer.total;
     *count = answer.count;
     refusal::number(verdict)

@@ -7,7 +7,7 @@ ghost use Rattle.sheettext.specs.Sheet.{sheetText};
 ghost use Rattle.pagetext.specs.Page.{pageText};
 ghost use Rattle.tableanswers.specs.TableAnswers.{tableWritten, tableOutput, printedWritten, printedOutput};
 ghost use Rattle.tender.specs.FromText.{clearedByTable, writtenAs, outputAs};
-ghost use Rattle.awardnumbers.specs.Numbers.{numbersVerdict, numbersTotal, numbersCount, numbersOutput};
+ghost use Rattle.awardnumbers.specs.Numbers.{numbersVerdict, numbersBought, numbersTotal, numbersCount, numbersOutput};
 
 // The award sheet of a book, sampled by the table, and its length.
 #[no_mangle]
@@ -58,11 +58,13 @@ pub extern "C" fn boccelarch_award_by_table(
     text: &[u8],
     rows: &mut [u64],
     place: &mut u64,
+    bought: &mut u64,
     total: &mut u64,
     count: &mut u64,
 ) -> u64
     ensures { λ r. ⌜ r ≡ numberOf (numbersVerdict (clearedByTable (now (table .entry)) (now (text .entry))) (length (now (rows .entry)))) ⌝ }
     ensures { λ _. ⌜ now (place .exit) ≡ placeOf (numbersVerdict (clearedByTable (now (table .entry)) (now (text .entry))) (length (now (rows .entry)))) ⌝ }
+    ensures { λ _. ⌜ now (bought .exit) ≡ numbersBought (clearedByTable (now (table .entry)) (now (text .entry))) (length (now (rows .entry))) ⌝ }
     ensures { λ _. ⌜ now (total .exit) ≡ numbersTotal (clearedByTable (now (table .entry)) (now (text .entry))) (length (now (rows .entry))) ⌝ }
     ensures { λ _. ⌜ now (count .exit) ≡ numbersCount (clearedByTable (now (table .entry)) (now (text .entry))) (length (now (rows .entry))) ⌝ }
     ensures { λ _. ⌜ now (rows .exit) ≡ numbersOutput (clearedByTable (now (table .entry)) (now (text .entry))) (now (rows .entry)) ⌝ }
@@ -70,6 +72,7 @@ pub extern "C" fn boccelarch_award_by_table(
     let answer = awardnumbers::award_by_table(table, text, rows);
     let verdict = answer.verdict;
     *place = refusal::place(verdict);
+    *bought = answer.bought;
     *total = answer.total;
     *count = answer.count;
     refusal::number(verdict)

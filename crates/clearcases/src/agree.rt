@@ -1,5 +1,5 @@
-// Whether clearing gives what the second clearing gives: verdict, demand, total, and all six columns of every row; and zeros and
-// `Nothing` in the rows past the bids, which are all rows beside a refusal.
+// Whether clearing gives what the second clearing gives: verdict, demand, what is bought, total, and all six columns of every row;
+// and zeros and `Nothing` in the rows past the bids, which are all rows beside a refusal.
 use crate::small_books::SmallBook;
 use crate::splits;
 use crate::splits::Cheapest;
@@ -41,6 +41,9 @@ fn is_number(verdict: Verdict, number: u64) -> bool {
 fn award_agrees(award: Award, book: SmallBook, best: Cheapest) -> bool {
     let total = award.total;
     if award.demand.0 != book.demand {
+        return false;
+    }
+    if award.bought.0 != splits::bought(best.split) {
         return false;
     }
     if award.count != book.count {

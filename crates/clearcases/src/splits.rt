@@ -33,6 +33,11 @@ pub fn quantity(split: u64, i: usize) -> u64 {
     }
 }
 
+// What all bidders sell.
+pub fn bought(split: u64) -> u64 {
+    split % 729 / 81 + split / 9 % 9 + split % 9
+}
+
 pub fn asked(bid: SmallBid, quantity: u64) -> Offer {
     if quantity == 0 {
         return Offer {
@@ -93,7 +98,7 @@ fn price(book: SmallBook, struck: usize, split: u64, i: usize) -> u64 {
 
 // What a split costs, at least `NONE` where it is not offered or does not meet the demand.
 fn cost(book: SmallBook, struck: usize, split: u64) -> u64 {
-    if split % 729 / 81 + split / 9 % 9 + split % 9 != book.demand {
+    if bought(split) != book.demand {
         return NONE;
     }
     let first = price(book, struck, split, 0);

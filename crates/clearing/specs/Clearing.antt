@@ -29,10 +29,11 @@ rowsFrom table b i [] rs = []
 rowsFrom table b i (bid ∷ bids) [] = []
 rowsFrom table b i (bid ∷ bids) (r ∷ rs) = rowOf table bid r (totalWithout b i) ∷ rowsFrom table b (suc i) bids rs
 
--- demand, total price, and the rows, in book order; rows past the bids hold zeros and `none`
+-- demand, what is bought, total price, and the rows, in book order; rows past the bids hold zeros and `none`
 unfoldable pub awardRecord : TableEntries → BookEntries → Priced → Award
 awardRecord table b award = record {
   demand = b .order .demand;
+  bought = b .order .demand;
   total = record { 0 = award .cost };
   count = b .count;
   rows = padded 8 noRow (rowsFrom table b 0 (b .bids) (award .quantities));

@@ -24,7 +24,7 @@ use Rattle.clearing.specs.declared.Clearing.{Clearing}
 use Rattle.clearing.specs.Clearing.{awardRecord, clearSampled}
 use Rattle.awardtheorems.specs.Awarded.{rowAt, awarded}
 use Rattle.awardtheorems.proofs.Answers.{cleared}
-use Rattle.awardtheorems.proofs.Cleared.{award-of-book, no-award-of-book, no-other-cheaper, one-inside, row-is, without-is}
+use Rattle.awardtheorems.proofs.Cleared.{award-of-book, no-award-of-book, no-other-cheaper, bought-is, one-inside, row-is, without-is}
 use Rattle.bookanswers.specs.BookAnswers.{bookOf}
 use Rattle.tender.specs.FromText.{clearTextSampled}
 use Rattle.endtoend.specs.TheAward.{TotalOf, bidAt, TheAward}
@@ -62,6 +62,7 @@ module _ (table : TableEntries) (book : Book) (held : length (book .bids) ≡ 8)
   pub the-award : TheAward table b a
   the-award = record {
     demand = first-line .0;
+    bought = bought-is table book held accepted;
     count = first-line .1;
     best = no-other-cheaper table book held accepted;
     one-inside = one-inside table book held accepted;

@@ -31,7 +31,7 @@ use Rattle.clearing.specs.Clearing.{clearSampled}
 use Rattle.awardtheorems.specs.Awarded.{rowsOf, rowAt}
 use Rattle.awardtheorems.proofs.Answers.{cleared}
 use Rattle.awardtheorems.proofs.Costs.{NotNegative, UpTo, mostTotal}
-use Rattle.awardtheorems.proofs.Amounts.{SmallSamples, TotalUpTo, RowUpTo, demand-up-to, total-from-zero, rows-up-to}
+use Rattle.awardtheorems.proofs.Amounts.{SmallSamples, TotalUpTo, RowUpTo, demand-up-to, bought-up-to, total-from-zero, rows-up-to}
 use Rattle.sheettext.specs.Sheet.{totalText, rowText, sheetText}
 use Rattle.sheettext.proofs.Sizes.{row-size, sheet-size}
 use Rattle.tender.specs.FromText.{clearTextSampled, clearText, sheetWritten, clearPrints}
@@ -67,7 +67,7 @@ every-row P a each = all-indexed P noRow (rowsOf a) (λ i h.
     let within : i < a .count = omega (arith, h, take-most (a .count) (a .rows) .0) in
     subst P (sym (getD-take (a .count) (a .rows) i noRow within)) (each i within))
 
--- the sheet of an award, by a table without large samples: 31 bytes, and 66 for each bid
+-- the sheet of an award, by a table without large samples: 39 bytes, and 66 for each bid
 module _ (table : TableEntries) (small : SmallSamples table) (book : Book) (held : length (book .bids) ≡ 8)
     (accepted : clearSampled table (bookEntries book) .verdict ≡ Accepted) where
   abbrev a : Award
@@ -82,9 +82,10 @@ module _ (table : TableEntries) (small : SmallSamples table) (book : Book) (held
   pub each-up-to : (i : ℕ) → i < a .count → RowUpTo (rowAt a i)
   each-up-to i h = rows-up-to table book held accepted small i (omega (arith, count-is))
 
-  pub sheet-bound : length (sheetText a) ≤ 31 + 66 * book .count
+  pub sheet-bound : length (sheetText a) ≤ 39 + 66 * book .count
   sheet-bound =
       let demand = length-below 6 (a .demand .0) (omega (arith, demand-up-to table book held accepted)) in
+      let bought = length-below 6 (a .bought .0) (omega (arith, bought-up-to table book held accepted)) in
       let t = total-from-zero table book held accepted in
       let total = amount-short 13 (a .total .0) (t .not-negative) (omega (arith, t .size)) in
       let short = every-row (λ (row : Row). length (rowText row) ≤ 66) a (λ i h. row-short (rowAt a i) (each-up-to i h)) in
@@ -92,7 +93,7 @@ module _ (table : TableEntries) (small : SmallSamples table) (book : Book) (held
       let counted = take-most (a .count) (a .rows) .0 in
       omega (arith, sheet-size a, count-is)
 
-  short-sheet : length (sheetText a) ≤ 559
+  short-sheet : length (sheetText a) ≤ 567
   short-sheet = omega (arith, sheet-bound, count-is, few)
 
 module _ (table : TableEntries) (small : SmallSamples table) (t : List ℕ) where
@@ -104,6 +105,9 @@ module _ (table : TableEntries) (small : SmallSamples table) (t : List ℕ) wher
     pub text-demand-up-to : award .demand .0 ≤ mostBlanks
     text-demand-up-to = of-records table t accepted (λ (b : BookEntries) (a : Award). a .demand .0 ≤ mostBlanks) (demand-up-to table)
 
+    pub text-bought-up-to : award .bought .0 ≤ 2 * mostBlanks
+    text-bought-up-to = of-records table t accepted (λ (b : BookEntries) (a : Award). a .bought .0 ≤ 2 * mostBlanks) (bought-up-to table)
+
     pub text-total-up-to : UpTo mostTotal (award .total .0)
     text-total-up-to = of-records table t accepted (λ (b : BookEntries) (a : Award). UpTo mostTotal (a .total .0)) (total-from-zero table)
 
@@ -111,8 +115,8 @@ module _ (table : TableEntries) (small : SmallSamples table) (t : List ℕ) wher
     text-row-up-to =
         of-records table t accepted (λ (b : BookEntries) (a : Award). (i : ℕ) → i < a .count → RowUpTo (rowAt a i)) (each-up-to table small)
 
-    pub sheet-fits : length (sheetText award) ≤ 559
-    sheet-fits = of-records table t accepted (λ (b : BookEntries) (a : Award). length (sheetText a) ≤ 559) (short-sheet table small)
+    pub sheet-fits : length (sheetText award) ≤ 567
+    sheet-fits = of-records table t accepted (λ (b : BookEntries) (a : Award). length (sheetText a) ≤ 567) (short-sheet table small)
 
   -- 600 bytes hold the sheet
   pub in-600 : clearTextSampled table t .verdict ≡ Accepted → length (sheetText (clearTextSampled table t .award)) ≤ 600

@@ -1,5 +1,5 @@
 -- The words of demand 3 fix every byte of the sheet and of the page: two records of a book's award have the same text, if that shows
--- no more of them than demand, total and the rows of the bids. Assumes nothing.
+-- no more of them than demand, what is bought, total and the rows of the bids. Assumes nothing.
 use Prim.Native.Nat.{ℕ, _<_}
 use native.Mathlib.Omega.{arith}
 use mathlib.Core.List.{List}
@@ -10,6 +10,7 @@ use Rattle.lists.proofs.Slices.{take-most}
 use Rattle.book.specs.Entries.{BookEntries}
 use Rattle.sampling.specs.Entries.{TableEntries}
 use Rattle.supply.specs.Supply.{suppliesOf}
+use Rattle.supply.specs.Allocation.{bought}
 use Rattle.divisions.specs.Award.{Priced}
 use Rattle.divisions.proofs.Award.{as-many, only-award}
 use Rattle.award.specs.declared.Total.{Total}
@@ -62,15 +63,18 @@ module _ (table : TableEntries) (b : BookEntries) (x y : Award) (this : TheAward
       ∙ same-row i within
       ∙ sym (getD-take (y .count) (y .rows) i noRow (omega (arith, that .count))))
 
+  same-bought : x .bought .0 ≡ y .bought .0
+  same-bought = this .bought ∙ ap (λ (p : Priced). bought (p .quantities)) same-awarded ∙ sym (that .bought)
+
   pub one-text : (text : Award → List ℕ) → ShowsRowsOnly text → text x ≡ text y
-  one-text text shows = shows x y (this .demand ∙ sym (that .demand)) (ap (λ (p : Priced). p .cost) same-awarded) same-rows
+  one-text text shows = shows x y (this .demand ∙ sym (that .demand)) same-bought (ap (λ (p : Priced). p .cost) same-awarded) same-rows
 
 -- neither the sheet nor the page shows more
 
 pub sheet-shows : ShowsRowsOnly sheetText
 unfolding sheetText firstText
-sheet-shows x y demand total rows = rw (demand, total, rows)
+sheet-shows x y demand sold total rows = rw (demand, sold, total, rows)
 
 pub page-shows : ShowsRowsOnly pageText
 unfolding pageText pageFirst
-page-shows x y demand total rows = rw (demand, total, rows)
+page-shows x y demand sold total rows = rw (demand, sold, total, rows)

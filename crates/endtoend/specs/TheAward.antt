@@ -6,6 +6,7 @@ use lib.ListN.{getD}
 use Rattle.book.specs.Entries.{BidEntries, BookEntries}
 use Rattle.sampling.specs.Entries.{TableEntries}
 use Rattle.supply.specs.Supply.{suppliesOf}
+use Rattle.supply.specs.Allocation.{bought}
 use Rattle.divisions.specs.Award.{Priced}
 use Rattle.divisions.specs.IsAward.{insideCount}
 use Rattle.award.specs.declared.Total.{Total}
@@ -27,6 +28,8 @@ bidAt b i = getD (b .bids) i (record { bidder = 0; carriage = 0; count = 0; segm
 
 pub record TheAward (table : TableEntries) (b : BookEntries) (a : Award) : Type 0 where
   pub demand : a .demand .0 ≡ b .order .demand .0
+  -- what all bidders sell
+  pub bought : a .bought .0 ≡ bought (awarded a .quantities)
   pub count : a .count ≡ b .count
   -- one of the divisions; every other costs more, or costs the same and gives less to the first bidder at whom the two differ
   pub best : IsAwardOf b (awarded a)

@@ -39,16 +39,16 @@ pub fn row_line(row: Row) -> [Part; 8]
     ]
 }
 
-// Demand and total price.
+// Demand, what is bought, and total price.
 pub fn first_line(award: Award) -> [Part; 8]
     ensures { λ r. ⌜ joined partText r ≡ pageFirst award ⌝ }
 {
     let total = award.total;
     [
         Part::Column(20, Shown::InDigits(award.demand.0)),
-        Part::Column(44, Shown::InMoney(total)),
+        Part::Column(20, Shown::InDigits(award.bought.0)),
+        Part::Column(24, Shown::InMoney(total)),
         Part::Fixed(Word::EndLine),
-        Part::Nothing,
         Part::Nothing,
         Part::Nothing,
         Part::Nothing,

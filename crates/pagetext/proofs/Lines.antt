@@ -43,7 +43,7 @@ line-of cs fits shown wide = record {
 
 pub first-line : (award : Award) → All Fits (firstColumns award) → PageLine (pageFirst award)
 unfolding pageFirst
-first-line award fits = line-of (firstColumns award) fits (in-number _, (in-money _, tt)) refl
+first-line award fits = line-of (firstColumns award) fits (in-number _, (in-number _, (in-money _, tt))) refl
 
 pub row-line : (row : Row) → RowFits row → PageLine (pageRow row)
 unfolding pageRow

@@ -54,8 +54,11 @@ module _ (award : Award) (fits : PageFits award) where
   pub demand-back : numberIn (columns 0 20 (pageText award)) ≡ award .demand .0
   demand-back = ap numberIn (first-stands .0) ∙ number-back 20 (award .demand .0)
 
-  pub price-back : FromZero (award .total .0) → pos (centsIn (columns 20 44 (pageText award))) ≡ award .total .0
-  price-back e = ap (λ (s : List ℕ). pos (centsIn s)) (first-stands .1 .0) ∙ money-back 44 (award .total .0) e
+  pub bought-back : numberIn (columns 20 20 (pageText award)) ≡ award .bought .0
+  bought-back = ap numberIn (first-stands .1 .0) ∙ number-back 20 (award .bought .0)
+
+  pub price-back : FromZero (award .total .0) → pos (centsIn (columns 40 24 (pageText award))) ≡ award .total .0
+  price-back e = ap (λ (s : List ℕ). pos (centsIn s)) (first-stands .1 .1 .0) ∙ money-back 24 (award .total .0) e
 
   pub count-back : length (pageText award) / 65 - 1 ≡ length (rowsShown award)
   count-back = omega (arith, page-length award fits)
@@ -73,5 +76,5 @@ module _ (award : Award) (fits : PageFits award) where
   pub award-back : AwardFromZero award → Complete award → awardIn (pageText award) ≡ award
   unfolding awardIn
   award-back from-zero complete =
-      rw (demand-back, price-back (from-zero .total), count-back, rows-back (from-zero .rows))
-      (λ i. record { demand = award .demand; total = award .total; count = complete .many i; rows = sym (complete .past) i })
+      rw (demand-back, bought-back, price-back (from-zero .total), count-back, rows-back (from-zero .rows))
+      (λ i. record { demand = award .demand; bought = award .bought; total = award .total; count = complete .many i; rows = sym (complete .past) i })

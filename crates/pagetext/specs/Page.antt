@@ -28,9 +28,9 @@ unfoldable pub pageTotal : Total → List ℕ
 pageTotal (Amount cents) = moneyText (cents .0)
 pageTotal Nothing = ascii "none"
 
--- line one: demand and total price
+-- line one: demand, what is bought, and total price (document 02, change 5)
 abbrev pub firstColumns : Award → List Column
-firstColumns award = (20, digits (award .demand .0)) ∷ (44, moneyText (award .total .0)) ∷ []
+firstColumns award = (20, digits (award .demand .0)) ∷ (20, digits (award .bought .0)) ∷ (24, moneyText (award .total .0)) ∷ []
 
 -- each bid: bidder, segment, quantity, price, blanks to sample, and the total without the bidder
 abbrev pub rowColumns : Row → List Column

@@ -62,11 +62,12 @@ unfoldable pub linesIn : ℕ → List ℕ → List (List ℕ)
 linesIn zero page = []
 linesIn (suc n) page = take 65 page ∷ linesIn n (drop 65 page)
 
--- the first line has demand and total, every other one a bid; rows past the bids hold zeros and `none`
+-- the first line has demand, what is bought and total, every other one a bid; rows past the bids hold zeros and `none`
 unfoldable pub awardIn : List ℕ → Award
 awardIn page = record {
   demand = record { 0 = numberIn (columns 0 20 page) };
-  total = record { 0 = pos (centsIn (columns 20 44 page)) };
+  bought = record { 0 = numberIn (columns 20 20 page) };
+  total = record { 0 = pos (centsIn (columns 40 24 page)) };
   count = length page / 65 - 1;
   rows = padded 8 noRow (map rowIn (linesIn (length page / 65 - 1) (drop 65 page)));
 }

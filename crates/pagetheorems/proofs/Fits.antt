@@ -21,7 +21,7 @@ use Rattle.award.specs.declared.Award.{Award}
 use Rattle.clearing.specs.Clearing.{clearSampled}
 use Rattle.awardtheorems.specs.Awarded.{rowsOf}
 use Rattle.awardtheorems.proofs.Costs.{UpTo, mostTotal}
-use Rattle.awardtheorems.proofs.Amounts.{SmallSamples, TotalUpTo, RowUpTo, demand-up-to, total-from-zero}
+use Rattle.awardtheorems.proofs.Amounts.{SmallSamples, TotalUpTo, RowUpTo, demand-up-to, bought-up-to, total-from-zero}
 use Rattle.pagetext.specs.Page.{pageTotal}
 use Rattle.pagetext.specs.Fits.{RowFits, PageFits}
 use Rattle.pagetext.proofs.Amounts.{TotalFromZero}
@@ -64,8 +64,9 @@ module _ (table : TableEntries) (small : SmallSamples table) (book : Book) (held
   pub page-fits : PageFits a
   page-fits =
       let demand = length-below 19 (a .demand .0) (omega (arith, demand-up-to table book held accepted)) in
+      let bought = length-below 19 (a .bought .0) (omega (arith, bought-up-to table book held accepted)) in
       let total = amount-short mostTotal (a .total .0) (total-from-zero table book held accepted) (omega arith) in
-      record { first = (demand, (omega arith, tt)); rows = all-from RowUpTo RowFits row-fits (rowsOf a) up-to }
+      record { first = (demand, (bought, (omega arith, tt))); rows = all-from RowUpTo RowFits row-fits (rowsOf a) up-to }
 
   pub none-negative : AwardFromZero a
   none-negative = record {

@@ -40,16 +40,16 @@ pub fn row_line(row: Row) -> [Part; 8]
     ]
 }
 
-// Demand and total price.
+// Demand, what is bought, and total price.
 pub fn first_line(award: Award) -> [Part; 8]
     ensures { λ r. ⌜ joined partText r ≡ firstText award ⌝ }
 {
     let total = award.total;
     [
         Part::Number(Word::Award, award.demand.0),
+        Part::Number(Word::Space, award.bought.0),
         Part::Price(Word::Space, total),
         Part::Fixed(Word::CloseLine),
-        Part::Nothing,
         Part::Nothing,
         Part::Nothing,
         Part::Nothing,

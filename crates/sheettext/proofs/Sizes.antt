@@ -25,7 +25,11 @@ row-size row = simp length-append (omega arith)
 
 pub sheet-size : (award : Award)
     → length (sheetText award)
-    ≡ 10 + length (digits (award .demand .0)) + length (signedDigits (award .total .0)) + length (joined rowText (take (award .count) (award .rows)))
+    ≡ 11
+    + length (digits (award .demand .0))
+    + length (digits (award .bought .0))
+    + length (signedDigits (award .total .0))
+    + length (joined rowText (take (award .count) (award .rows)))
 unfolding firstText sheetText
 sheet-size award = simp length-append (omega arith)
 

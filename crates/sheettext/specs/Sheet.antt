@@ -28,9 +28,13 @@ rowText row =
     ++ ascii " (without " ++ totalText (row .without)
     ++ ascii "))\n"
 
--- demand and total price
+-- demand, what is bought, and total price (document 02, change 5)
 unfoldable pub firstText : Award → List ℕ
-firstText award = ascii "(award " ++ digits (award .demand .0) ++ ascii " " ++ signedDigits (award .total .0) ++ ascii ")\n"
+firstText award =
+    ascii "(award " ++ digits (award .demand .0)
+    ++ ascii " " ++ digits (award .bought .0)
+    ++ ascii " " ++ signedDigits (award .total .0)
+    ++ ascii ")\n"
 
 -- and then a line for every bid, in book order
 unfoldable pub sheetText : Award → List ℕ

@@ -42,6 +42,7 @@ modelCleared table b (some award) = record {
   verdict = Accepted;
   award = record {
     demand = b .order .demand;
+    bought = b .order .demand;
     total = record { 0 = award .cost };
     count = b .count;
     rows = padded 8 noRow (modelRows table b 0 (b .bids) (award .quantities));
@@ -77,7 +78,13 @@ module _ (table : TableEntries) (b : BookEntries) (bids : All AcceptedBid (b .bi
   answers (some award) =
       ap (λ (l : List Row). record {
         verdict = Accepted;
-        award = record { demand = b .order .demand; total = record { 0 = award .cost }; count = b .count; rows = padded 8 noRow l };
+        award = record {
+          demand = b .order .demand;
+          bought = b .order .demand;
+          total = record { 0 = award .cost };
+          count = b .count;
+          rows = padded 8 noRow l;
+        };
       }) (rows 0 (b .bids) (award .quantities))
 
 -- a book that is refused by rules 3 to 8 has one answer, and else the search decides

@@ -1,5 +1,6 @@
 -- The cases of document 01, section "Cases", that are marked P: the text of a book, and what is printed for it, byte for byte. The columns
--- that document 01 does not print for a case (segment, price, sample, total without) follow from its rules.
+-- that document 01 does not print for a case (segment, price, sample, total without) follow from its rules; what is bought stands after the
+-- demand since document 02, change 5.
 use Prim.Native.Nat.{ℕ}
 use Prim.Native.String.{String}
 use mathlib.Core.List.{List, [], _∷_, _++_}
@@ -33,7 +34,7 @@ table =
     record {
       text = theBook "120";
       printed = lines
-          ("(award 120 43100)"
+          ("(award 120 120 43100)"
           ∷ "(buy 3 2 100 34500 20 (without 44400))"
           ∷ "(buy 8 1 20 8600 5 (without 44400))"
           ∷ "(buy 12 0 0 0 0 (without 43100))"
@@ -42,7 +43,7 @@ table =
     ∷ record {
       text = theBook "19";
       printed = lines
-          ("(award 19 7600)"
+          ("(award 19 19 7600)"
           ∷ "(buy 3 1 19 7600 5 (without none))"
           ∷ "(buy 8 0 0 0 0 (without 7600))"
           ∷ "(buy 12 0 0 0 0 (without 7600))"
@@ -51,7 +52,7 @@ table =
     ∷ record {
       text = theBook "60";
       printed = lines
-          ("(award 60 23800)"
+          ("(award 60 60 23800)"
           ∷ "(buy 3 0 0 0 0 (without 23800))"
           ∷ "(buy 8 1 60 23800 13 (without 24000))"
           ∷ "(buy 12 0 0 0 0 (without 23800))"
@@ -60,7 +61,7 @@ table =
     ∷ record {
       text = theBook "61";
       printed = lines
-          ("(award 61 20850)"
+          ("(award 61 61 20850)"
           ∷ "(buy 3 2 61 20850 13 (without 24180))"
           ∷ "(buy 8 0 0 0 0 (without 20850))"
           ∷ "(buy 12 0 0 0 0 (without 20850))"
@@ -69,7 +70,7 @@ table =
     ∷ record {
       text = theBook "181";
       printed = lines
-          ("(award 181 65250)"
+          ("(award 181 181 65250)"
           ∷ "(buy 3 2 61 20850 13 (without 68580))"
           ∷ "(buy 8 0 0 0 0 (without 65250))"
           ∷ "(buy 12 1 120 44400 20 (without none))"
@@ -78,7 +79,7 @@ table =
     ∷ record {
       text = theBook "300";
       printed = lines
-          ("(award 300 110300)"
+          ("(award 300 300 110300)"
           ∷ "(buy 3 2 100 34500 20 (without none))"
           ∷ "(buy 8 1 80 31400 13 (without none))"
           ∷ "(buy 12 1 120 44400 20 (without none))"
@@ -88,7 +89,7 @@ table =
     -- two bidders with the same segment: the first sells all
     ∷ record {
       text = lines ("(demand 10)" ∷ "(bid 1 0 (seg 1 10 5 0))" ∷ "(bid 2 0 (seg 1 10 5 0))" ∷ []);
-      printed = lines ("(award 10 50)" ∷ "(buy 1 1 10 50 3 (without 50))" ∷ "(buy 2 0 0 0 0 (without 50))" ∷ []);
+      printed = lines ("(award 10 10 50)" ∷ "(buy 1 1 10 50 3 (without 50))" ∷ "(buy 2 0 0 0 0 (without 50))" ∷ []);
     }
     -- bidder 12 alone
     ∷ record { text = lines ("(demand 119)" ∷ "(bid 12 0 (seg 120 120 370 0))" ∷ []); printed = lines ("(refused 9 0)" ∷ []) }
@@ -96,7 +97,7 @@ table =
     ∷ record {
       text = bookWith "120" "-21350";
       printed = lines
-          ("(award 120 22250)"
+          ("(award 120 120 22250)"
           ∷ "(buy 3 2 100 13650 20 (without 44400))"
           ∷ "(buy 8 1 20 8600 5 (without 44400))"
           ∷ "(buy 12 0 0 0 0 (without 22250))"

@@ -9,7 +9,13 @@ use Rattle.award.proofs.no_award.Statement.{statement}
 use Rattle.award.proofs.no_award.Tie as tie
 
 abbrev blank : Row → Award
-blank row = record { demand = record { 0 = 0 }; total = record { 0 = pos 0 }; count = 0; rows = replicate 8 row }
+blank row = record {
+  demand = record { 0 = 0 };
+  bought = record { 0 = 0 };
+  total = record { 0 = pos 0 };
+  count = 0;
+  rows = replicate 8 row;
+}
 
 returns : tie.Need-returns
 returns c = ap blank (c .no-row .ensures)

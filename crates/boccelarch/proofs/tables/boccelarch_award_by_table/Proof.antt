@@ -10,7 +10,10 @@ returns : tie.Need-returns
 returns c =
     let (is, left) = c .before .before .before .before .award-by-table .ensures in
     let (number, place) = refusal-given (λ (n : AwardNumbers). n .verdict) is (c .number .ensures) (c .before .place .ensures) in
-    (number, (place, (ap (λ (n : AwardNumbers). n .total) is, (ap (λ (n : AwardNumbers). n .count) is, left))))
+    let bought = ap (λ (n : AwardNumbers). n .bought) is in
+    let total = ap (λ (n : AwardNumbers). n .total) is in
+    let count = ap (λ (n : AwardNumbers). n .count) is in
+    (number, (place, (bought, (total, (count, left)))))
 
 pub boccelarch-award-by-table-spec : {M : Type 1} → statement M
 boccelarch-award-by-table-spec =
