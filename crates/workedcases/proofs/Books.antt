@@ -13,8 +13,9 @@ seg start end unit fixed = record { start = record { 0 = start }; end = record {
 abbrev pub bid : ℕ → List Segment → BidEntries
 bid bidder segments = record { bidder = bidder; carriage = 0; count = length segments; segments = segments }
 
+-- without allowance
 abbrev pub demand : ℕ → List BidEntries → BookEntries
-demand blanks bids = record { order = record { demand = record { 0 = blanks } }; count = length bids; bids = bids }
+demand blanks bids = record { order = record { demand = record { 0 = blanks }; allowance = record { 0 = 0 } }; count = length bids; bids = bids }
 
 -- the bids of document 01's book
 abbrev pub theBids : ℤ → List BidEntries

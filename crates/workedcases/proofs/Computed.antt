@@ -3,7 +3,7 @@ use mathlib.Core.Bool.{true}
 use mathlib.Core.Path.{_≡_, refl}
 use Rattle.lists.specs.Every.{every}
 use Rattle.money.specs.Price.{priceOf}
-use Rattle.book.specs.Rules.{segmentInRange, bidInRange, segmentsRise, startNotNegative, bidVerdict, bidsVerdict, bookVerdict}
+use Rattle.book.specs.Rules.{segmentInRange, bidInRange, segmentsRise, startNotNegative, bidVerdict, bidsVerdict, orderInRange, bookVerdict}
 use Rattle.forms.specs.Digits.{digitsWithin, digits, signedDigits}
 use Rattle.booktext.specs.BookText.{segmentText, bidHead, bidText, bookHead, bookText}
 use Rattle.sampling.specs.Sampling.{printedBands, sampleAbove, sampleOf}
@@ -22,7 +22,7 @@ use Rattle.workedcases.proofs.Fits.{bookFits}
 use Rattle.workedcases.proofs.Test.{passes, allPass}
 
 pub computed : allPass table books ≡ true
-unfolding table books every priceOf segmentInRange bidInRange segmentsRise startNotNegative bidVerdict bidsVerdict bookVerdict supplyOf on priceAt numberFrom segmentNumber
+unfolding table books every priceOf segmentInRange bidInRange segmentsRise startNotNegative bidVerdict bidsVerdict orderInRange bookVerdict supplyOf on priceAt numberFrom segmentNumber
     printedBands sampleAbove sampleOf givesMore better pick fits width filled each leaf search rowOf bookWithout digitsWithin digits signedDigits segmentText bidHead bidText
     bookHead bookText totalText rowText firstText sheetText refusalText eqBytes bookSmall bookFits passes allPass
 computed = refl
