@@ -105,4 +105,20 @@ table =
           ∷ []);
     }
     ∷ record { text = bookWith "120" "-21351"; printed = lines ("(refused 8 2)" ∷ []) }
+    -- document 02, change 5: a cheaper drum above the demand, by just the allowance and by one more
+    ∷ record {
+      text = lines ("(demand 100 10)" ∷ "(bid 1 0 (seg 1 100 50 0))" ∷ "(bid 2 0 (seg 110 110 40 0))" ∷ []);
+      printed = lines ("(award 100 110 4400)" ∷ "(buy 1 0 0 0 0 (without 4400))" ∷ "(buy 2 1 110 4400 20 (without 5000))" ∷ []);
+    }
+    ∷ record {
+      text = lines ("(demand 100 9)" ∷ "(bid 1 0 (seg 1 100 50 0))" ∷ "(bid 2 0 (seg 110 110 40 0))" ∷ []);
+      printed = lines ("(award 100 100 5000)" ∷ "(buy 1 1 100 5000 20 (without none))" ∷ "(buy 2 0 0 0 0 (without 5000))" ∷ []);
+    }
+    -- blanks that cost nothing are not taken beyond the demand
+    ∷ record { text = lines ("(demand 5 3)" ∷ "(bid 1 0 (seg 1 9 0 7))" ∷ []); printed = lines ("(award 5 5 7)" ∷ "(buy 1 1 5 7 2 (without none))" ∷ []) }
+    -- at the same cost the fewer blanks, against book order
+    ∷ record {
+      text = lines ("(demand 5 3)" ∷ "(bid 1 0 (seg 8 8 0 30))" ∷ "(bid 2 0 (seg 6 6 0 30))" ∷ []);
+      printed = lines ("(award 5 6 30)" ∷ "(buy 1 0 0 0 0 (without 30))" ∷ "(buy 2 1 6 30 2 (without 30))" ∷ []);
+    }
     ∷ []
