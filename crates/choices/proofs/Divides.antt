@@ -18,7 +18,7 @@ use Rattle.supply.proofs.Sound.{SoundSupply}
 use Rattle.divisions.specs.Award.{Priced}
 use Rattle.divisions.proofs.Order.{better-cost, better-tie}
 use Rattle.divisions.proofs.IsBest.{NotBetter}
-use Rattle.choices.specs.Choice.{starts, ends, fits, placed, extrasOf, filled}
+use Rattle.choices.specs.Choice.{starts, ends, fits, leftOver, placed, extrasOf, filled}
 use Rattle.choices.specs.Leaf.{Leaf}
 use Rattle.choices.proofs.Fill.{cost, Box, Wins, extras-bought, extras-box, box-widths}
 use Rattle.choices.proofs.Certificate.{extras-cert, insides, one-inside}
@@ -82,20 +82,20 @@ wins-better c xs ys b d w = go w
 
 module _ (order : Order) (c : List Segment) (sound : All SoundSegment c) where
   abbrev left : ℕ
-  left = order .demand .0 - starts c
+  left = leftOver order c
 
   abbrev given : List ℕ
   given = extrasOf order c
 
   -- where the demand can be given, it is; what the starts pass it by is over it
-  given-all : order .demand .0 ≤ ends c → bought (placed c given) ≡ starts c + (order .demand .0 - starts c)
+  given-all : order .demand .0 ≤ ends c → bought (placed c given) ≡ starts c + left
   given-all high = omega (arith, placed-bought c given (extras-box left c), extras-bought left c (omega (arith, ends-widths c sound)))
 
   filled-is : order .demand .0 ≤ ends c → filled order c ≡ together c given [] []
   unfolding filled bought
   filled-is high =
       let sum : cost c given ≡ cost c given + 0 = omega arith in
-      let blanks : starts c + (order .demand .0 - starts c) ≡ bought (placed c given) + 0 = omega (arith, given-all high) in
+      let blanks : starts c + left ≡ bought (placed c given) + 0 = omega (arith, given-all high) in
       λ i. record { cost = (cost-with c given sound ∙ ap pos sum) i; blanks = blanks i; quantities = reverse (placed c given) }
 
   leaf-divides : fits order c ≡ true → Divides order [] c (filled order c)

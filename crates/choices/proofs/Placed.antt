@@ -1,7 +1,7 @@
 -- The quantities of a choice with extras of its box: what they add up to, what they cost, and which give more. Assumes nothing.
 use Prim.Native.Nat.{ℕ, _+_, _*_, _≤_}
 use native.Mathlib.Omega.{arith}
-use mathlib.Core.Bool.{true, false≢true}
+use mathlib.Core.Bool.{true, _&&_, false≢true}
 use mathlib.Core.List.{List, [], _∷_, reverseAux}
 use mathlib.Core.Logic.{inl, inr}
 use mathlib.Core.Path.{_≡_, refl, ap, ap₂, _∙_}
@@ -59,18 +59,21 @@ unfolding width
 ends-widths [] sound = refl
 ends-widths (s ∷ c) sound = omega (arith, sound .0 .order, ends-widths c (sound .1))
 
+both-at-most : (a b c d : ℕ) → a ≤ b → c ≤ d → (leb a b && leb c d) ≡ true
+both-at-most a b c d h k = rw (le-leb a b h, le-leb c d k)
+
 module _ (order : Order) (c : List Segment) where
   pub fits-low : fits order c ≡ true → starts c ≤ mostOf order
   unfolding fits
-  fits-low e = leb-true (starts c) (mostOf order) (both-left (leb (starts c) (mostOf order)) (leb (order .demand .0) (ends c)) e)
+  fits-low e = omega (arith, leb-true (starts c) _ (both-left _ _ e))
 
   pub fits-high : fits order c ≡ true → order .demand .0 ≤ ends c
   unfolding fits
-  fits-high e = leb-true (order .demand .0) (ends c) (both-right (leb (starts c) (mostOf order)) (leb (order .demand .0) (ends c)) e)
+  fits-high e = leb-true (order .demand .0) (ends c) (both-right (leb (starts c) _) (leb (order .demand .0) (ends c)) e)
 
   pub fits-when : starts c ≤ mostOf order → order .demand .0 ≤ ends c → fits order c ≡ true
   unfolding fits
-  fits-when h k = rw (le-leb (starts c) (mostOf order) h, le-leb (order .demand .0) (ends c) k)
+  fits-when h k = both-at-most (starts c) _ _ (ends c) (omega arith) (omega arith)
 
 -- Where they differ first, in book order.
 

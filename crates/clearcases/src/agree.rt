@@ -29,6 +29,7 @@ pub fn agrees(book: SmallBook, best: Cheapest, r: Clearing) -> bool {
     }
     let mut none = book;
     none.demand = 0;
+    none.allowance = 0;
     none.count = 0;
     is_number(verdict, 9) && award_agrees(award, none, best)
 }

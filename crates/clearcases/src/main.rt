@@ -14,6 +14,7 @@ struct Counts {
     covered: u64,
     not_covered: u64,
     ties: u64,
+    above: u64,
     alike: u64,
     different: u64,
 }
@@ -24,6 +25,7 @@ fn main() {
     line(b"small books covered: ", c.covered);
     line(b"small books not covered: ", c.not_covered);
     line(b"with a tie for the cheapest: ", c.ties);
+    line(b"bought above the demand: ", c.above);
     line(b"cleared alike both ways: ", c.alike);
     line(b"cleared differently: ", c.different);
 }
@@ -40,6 +42,7 @@ fn count() -> Counts {
         covered: 0,
         not_covered: 0,
         ties: 0,
+        above: 0,
         alike: 0,
         different: 0,
     };
@@ -64,6 +67,7 @@ fn counted(c: Counts, book: SmallBook) -> Counts {
         covered: one_if(c.covered, best.total < splits::NONE),
         not_covered: one_if(c.not_covered, best.total == splits::NONE),
         ties: one_if(c.ties, best.tie),
+        above: one_if(c.above, book.demand < splits::bought(best.split)),
         alike: one_if(c.alike, same),
         different: one_if(c.different, !same),
     }

@@ -1,4 +1,4 @@
-// Small books made by a fixed rule: demands from 1 to 8, one to three bids of one to three segments, with carriages from 0 to 3.
+// Small books made by a fixed rule: demands from 1 to 8, allowances from 0 to 3 as far as both together are at most 8, one to three bids of one to three segments, with carriages from 0 to 3.
 // The rule goes from a number to the next, and takes several small numbers from each by division and remainder.
 ghost use Prim.Native.Nat.{_+_, _≤_};
 use book::Bid;
@@ -31,6 +31,7 @@ pub struct SmallBid {
 // The first `count` of three bids.
 pub struct SmallBook {
     pub demand: u64,
+    pub allowance: u64,
     pub count: usize,
     pub bids: [SmallBid; 3],
 }
@@ -59,9 +60,18 @@ pub fn book(x: u64) -> SmallBook {
     let third = bid(7, next_bid(z));
     SmallBook {
         demand: 1 + x % 8,
+        allowance: allowance(1 + x % 8, x / 32 % 4),
         count: bids(x / 8 % 4),
         bids: [first, second, third],
     }
+}
+
+// So many, or none where the most that the order takes would be above 8: no quantity of a split that is listed is.
+fn allowance(demand: u64, over: u64) -> u64 {
+    if 8 < demand % 9 + over % 4 {
+        return 0;
+    }
+    over
 }
 
 // Three more often than one or two: most splits are theirs.
@@ -143,7 +153,7 @@ pub fn record(book: SmallBook) -> Book {
     Book {
         order: Order {
             demand: Blanks(book.demand),
-            allowance: Blanks(0),
+            allowance: Blanks(book.allowance),
         },
         count: book.count,
         bids: [a, b, c, a, b, c, a, b],

@@ -1,8 +1,8 @@
-// The second clearing: all splits of a small book are listed, and the first of the cheapest is kept.
+// The second clearing: all splits of a small book are listed, and of the cheapest the one with fewest blanks is kept, the first of these.
 //
 // A split of three quantities from 0 to 8 is a number below 729: the quantities are its digits to the base 9, the last bidder's the
-// last. So the numbers from the highest down give the splits in the order that decides between equally cheap ones: the one that
-// gives the first bidder most comes first.
+// last. So the numbers from the highest down give the splits in the order that decides between those with as many
+// blanks at the same cost: the one that gives the first bidder most comes first.
 use crate::small_books;
 use crate::small_books::SmallBid;
 use crate::small_books::SmallBook;
@@ -11,7 +11,7 @@ use crate::small_books::SmallSegment;
 // The price of what is not offered.
 pub const NONE: u64 = 1_000_000_000_000;
 
-// The cheapest split and its price, `NONE` where no split meets the demand, and whether another one costs the same.
+// The cheapest split and its price, `NONE` where the order takes no split, and whether another one costs the same.
 pub struct Cheapest {
     pub total: u64,
     pub split: u64,
@@ -96,9 +96,17 @@ fn price(book: SmallBook, struck: usize, split: u64, i: usize) -> u64 {
     asked(bid, quantity).price
 }
 
-// What a split costs, at least `NONE` where it is not offered or does not meet the demand.
+// Whether a book's order takes so many blanks.
+fn taken(book: SmallBook, blanks: u64) -> bool {
+    if blanks < book.demand {
+        return false;
+    }
+    blanks - book.demand <= book.allowance
+}
+
+// What a split costs, at least `NONE` where it is not offered or the order does not take it.
 fn cost(book: SmallBook, struck: usize, split: u64) -> u64 {
-    if bought(split) != book.demand {
+    if !taken(book, bought(split)) {
         return NONE;
     }
     let first = price(book, struck, split, 0);
@@ -107,7 +115,17 @@ fn cost(book: SmallBook, struck: usize, split: u64) -> u64 {
     std::num::wrapping_add_u64(std::num::wrapping_add_u64(first, second), third)
 }
 
-// The cheapest so far, and a split that gives less to the first bidder at whom the two differ.
+// The best so far, and a split that costs the same: it is better only if it has fewer blanks, since it is listed later.
+fn tied(best: Cheapest, split: u64) -> Cheapest {
+    let mut kept = best;
+    kept.tie = true;
+    if bought(split) < bought(best.split) {
+        kept.split = split;
+    }
+    kept
+}
+
+// The best so far, and a split that is listed later.
 fn compared(best: Cheapest, split: u64, total: u64) -> Cheapest {
     if NONE <= total {
         return best;
@@ -116,9 +134,7 @@ fn compared(best: Cheapest, split: u64, total: u64) -> Cheapest {
         return best;
     }
     if best.total == total {
-        let mut same = best;
-        same.tie = true;
-        return same;
+        return tied(best, split);
     }
     Cheapest {
         total,

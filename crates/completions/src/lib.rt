@@ -148,7 +148,8 @@ pub fn survey(table: &mut [u64; 1152], book: Book, prices: Prices)
         i -= 1;
         let bid = book.bids[i];
         let last = supply::segment_of(bid, bid.count);
-        most = charges::smaller(most % 4294967296 + last.end.0 % 4294967296, order.demand.0);
+        let sum = most % 4294967296 + last.end.0 % 4294967296;
+        most = supply::capped(order, Blanks(sum)).0;
         with_bid(table, i, bid, order, prices, most);
     }
 }

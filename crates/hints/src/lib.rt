@@ -25,7 +25,8 @@ fn favourite(bid: Bid, order: Order, price: CentsPerBlank) -> usize
     while 0 < j {
         j -= 1;
         let s = supply::segment_of(bid, j);
-        if s.start.0 <= order.demand.0 {
+        let start = s.start;
+        if !supply::passes(order, start) {
             let here = charges::charge(s, order, price);
             if here < least {
                 least = here;

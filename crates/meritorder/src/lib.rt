@@ -25,7 +25,8 @@ pub fn fits(c: Choice, order: Order) -> bool
     if supply::passes(order, starts) {
         return false;
     }
-    order.demand.0 <= c.ends.0
+    let ends = c.ends;
+    supply::reaches(order, ends)
 }
 
 // Whether a further blank costs no more on s than `unit`. Its unit price decides, and not what its
@@ -81,7 +82,8 @@ fn left_over(order: Order, starts: Blanks) -> Blanks
     if order.demand.0 <= starts.0 {
         return Blanks(0);
     }
-    Blanks(order.demand.0 - starts.0)
+    let rest = order.demand.0 - starts.0;
+    Blanks(rest)
 }
 
 // The cheapest quantities within a choice that fits: from the last bidder to the first, each gets its
@@ -91,9 +93,9 @@ pub fn fill(c: Choice, order: Order) -> MaybeDivision
     ensures { λ r. ⌜ r .found ≡ true ⌝ }
     ensures { λ r. ⌜ divisionIn (c .count) r ≡ filled order (chosen c) ⌝ }
 {
-    let starts = c.starts;
-    let mut left = left_over(order, starts);
-    let bought = Blanks(starts.0 + left.0);
+    let low = c.starts;
+    let mut left = left_over(order, low);
+    let bought = Blanks(low.0 + left.0);
     let mut quantities = [Blanks(0); 8];
     let mut cost = Cents(0);
     let mut i = c.count;

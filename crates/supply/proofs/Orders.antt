@@ -7,21 +7,25 @@ use mathlib.Core.Path.{_≡_, sym}
 use borrow.Author.Tests.{ltb-true, ltb-false, lt-ltb, le-ltb, le-leb, lt-leb}
 use lib.Dec.{leb, ltb}
 use Rattle.book.specs.declared.Order.{Order}
+use Rattle.book.specs.Rules.{within}
 use Rattle.book.proofs.InRange.{within-low, within-high}
 use Rattle.supply.specs.Meets.{mostOf, meets}
+
+within-when : (low high n : ℕ) → low ≤ n → n ≤ high → within low high n ≡ true
+within-when low high n h k = rw (le-leb low n h, le-leb n high k)
 
 module _ (order : Order) (n : ℕ) where
   pub meets-low : meets order n ≡ true → order .demand .0 ≤ n
   unfolding meets
-  meets-low e = within-low (order .demand .0) (mostOf order) n e
+  meets-low e = omega (arith, within-low _ _ n e)
 
   pub meets-high : meets order n ≡ true → n ≤ order .demand .0 + order .allowance .0
   unfolding meets
-  meets-high e = within-high (order .demand .0) (mostOf order) n e
+  meets-high e = omega (arith, within-high _ _ n e)
 
   pub meets-when : order .demand .0 ≤ n → n ≤ order .demand .0 + order .allowance .0 → meets order n ≡ true
   unfolding meets
-  meets-when low high = rw (le-leb (order .demand .0) n low, le-leb n (mostOf order) high)
+  meets-when low high = within-when _ _ n (omega arith) (omega arith)
 
   -- by whether they are more than it takes
   pub too-many : ltb (mostOf order) n ≡ true → false ≡ meets order n

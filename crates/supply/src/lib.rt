@@ -18,6 +18,7 @@ use money::CentsPerBlank;
 pub use order::capped;
 pub use order::meets;
 pub use order::passes;
+pub use order::reaches;
 
 // The price at which a bid offers a quantity, or that it does not offer it.
 pub enum Offer {

@@ -1,7 +1,7 @@
 // Which numbers of blanks an order takes.
 ghost use mathlib.Core.Path.{_≡_};
 ghost use Prim.Native.Nat.{min};
-ghost use lib.Dec.{ltb};
+ghost use lib.Dec.{leb, ltb};
 ghost use Rattle.supply.specs.Meets.{mostOf, meets};
 use book::Order;
 use money::Blanks;
@@ -17,6 +17,13 @@ pub fn passes(order: Order, blanks: Blanks) -> bool
     order.allowance.0 < over
 }
 
+// Whether so many are at least the demand.
+pub fn reaches(order: Order, blanks: Blanks) -> bool
+    ensures { λ r. ⌜ r ≡ leb (order .demand .0) (blanks .0) ⌝ }
+{
+    order.demand.0 <= blanks.0
+}
+
 // Whether it takes so many.
 pub fn meets(order: Order, blanks: Blanks) -> bool
     ensures { λ r. ⌜ r ≡ meets order (blanks .0) ⌝ }
@@ -24,7 +31,7 @@ pub fn meets(order: Order, blanks: Blanks) -> bool
     if passes(order, blanks) {
         return false;
     }
-    order.demand.0 <= blanks.0
+    reaches(order, blanks)
 }
 
 // So many, or the most that it takes where that is less.

@@ -33,6 +33,7 @@ favourite-spec =
     add-j
     (λ c. search needs) (λ c. search needs)
     segment-of-requires
+    (λ c κs. search needs)
     charge-requires
     (λ c. search needs) (λ c. search needs) (λ c. search needs) (λ c. search needs) (λ c. search needs)
     (λ c. search needs)

@@ -15,7 +15,7 @@ returns-2 : tie.Need-returns-2
 returns-2 c =
     let e = c .before .before in
     let s = e .before .before .before in
-    not-too-many (s .args .order) (s .args .c) (s .pre .carried) (sym (e .before .passes .ensures) ∙ e .if1 .left)
+    c .reaches .ensures ∙ not-too-many (s .args .order) (s .args .c) (s .pre .carried) (sym (e .before .passes .ensures) ∙ e .if1 .left)
 
 pub fits-spec : {M : Type 1} → statement M
-fits-spec = tie.close (tie.spec (λ c κs. search needs) returns returns-2)
+fits-spec = tie.close (tie.spec (λ c κs. search needs) returns (λ c κs. search needs) returns-2)

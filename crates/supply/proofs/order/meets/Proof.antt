@@ -9,7 +9,9 @@ returns : tie.Need-returns
 returns c = too-many _ _ (sym (c .before .passes .ensures) ∙ c .if1 .taken)
 
 returns-2 : tie.Need-returns-2
-returns-2 c = let t = c .before .before in not-too-many _ _ (sym (t .before .passes .ensures) ∙ t .if1 .left)
+returns-2 c =
+    let t = c .before in
+    c .reaches .ensures ∙ not-too-many _ _ (sym (t .before .passes .ensures) ∙ t .if1 .left)
 
 pub meets-spec : {M : Type 1} → statement M
-meets-spec = tie.close (tie.spec (λ c κs. search needs) returns returns-2)
+meets-spec = tie.close (tie.spec (λ c κs. search needs) returns (λ c κs. search needs) returns-2)
