@@ -32,7 +32,7 @@ use Rattle.award.specs.Award.{noRow, rowOf}
 use Rattle.without.specs.Without.{bookWithout, totalOf, totalWithout}
 use Rattle.without.proofs.Same.{same-total}
 use Rattle.clearing.specs.declared.Clearing.{Clearing}
-use Rattle.clearing.specs.Clearing.{awardRecord, clearSampled}
+use Rattle.clearing.specs.Clearing.{clearSampled}
 use Rattle.clearing.proofs.Answers.{no-division, division}
 use Rattle.awardtheorems.specs.OfBook.{DivisionOf, IsAwardOf}
 use Rattle.awardtheorems.specs.Awarded.{rowAt, awarded}

@@ -2,15 +2,15 @@
 use Prim.Native.Nat.{ℕ}
 use native.Mathlib.Omega.{arith}
 use mathlib.Core.List.{List}
-use mathlib.Core.Logic.{_⊎_, inl, inr, _↔_}
-use mathlib.Core.Path.{_≡_, sym, ap, _∙_}
+use mathlib.Core.Logic.{_⊎_, inl, inr}
+use mathlib.Core.Path.{_≡_, sym, _∙_}
 use lib.Signed.{_<ℤ_}
 use Rattle.book.specs.declared.Segment.{Segment}
 use Rattle.book.specs.declared.Order.{Order}
 use Rattle.supply.specs.Allocation.{bought, costOf}
 use Rattle.supply.proofs.Orders.{meets-low, meets-high, meets-when}
 use Rattle.divisions.specs.Division.{Division}
-use Rattle.divisions.specs.Award.{Priced, awardOf}
+use Rattle.divisions.specs.Award.{Priced}
 use Rattle.divisions.specs.IsAward.{GivesLess, Worse, IsAward}
 use Rattle.divisions.specs.Before.{DivisionBefore, IsAwardBefore, AsBefore}
 use Rattle.divisions.proofs.Award.{no-award-iff, award-is, only-award}

@@ -3,7 +3,7 @@ use Prim.Native.Nat.{ℕ, _+_, _*_, _≤_, _<_}
 use native.Mathlib.Nat.{mul-le-mul-left}
 use native.Mathlib.Omega.{arith}
 use mathlib.Core.Bool.{Bool, true, false, cond, false≢true}
-use mathlib.Core.List.{List, [], _∷_, reverseAux}
+use mathlib.Core.List.{List}
 use mathlib.Core.Logic.{_⊎_, inl, inr, ⊎-elim}
 use mathlib.Core.Option.{some, none}
 use mathlib.Core.Path.{_≡_, refl, sym, ap, _∙_, subst}
@@ -27,7 +27,6 @@ use Rattle.divisions.proofs.Order.{Wins, better-cost, better-tie}
 use Rattle.divisions.proofs.Signed as Signed
 use Rattle.divisions.proofs.IsBest.{NotBetter}
 use Rattle.choices.specs.Choice.{placed, endsInOrder}
-use Rattle.choices.specs.Chosen.{Chosen}
 use Rattle.choices.specs.Leaf.{Leaf}
 use Rattle.choices.specs.Search.{search}
 use Rattle.choices.proofs.Fill.{cost, box-widths}
@@ -43,7 +42,7 @@ use Rattle.charges.specs.declared.Sums.{Sums}
 use Rattle.charges.specs.Charge.{million, charges}
 use Rattle.charges.specs.Records.{SumsOf}
 use Rattle.charges.proofs.Bound.{charges-below}
-use Rattle.completions.specs.Classes.{classAt, classCount, Admits, Covers}
+use Rattle.completions.specs.Classes.{classAt, classCount, Admits}
 use Rattle.hopeless.specs.Hopeless.{WinsTies, Above, Closed, empty, passed, short, dearFirst, dearSecond, NothingBetter}
 
 -- A cost against a sum of prices.

@@ -1,14 +1,14 @@
 -- The bidders from the last to the one in turn have their quantities, and those before it share what is left.
-use Prim.Native.Nat.{ℕ, suc, _+_, _-_, _≤_}
+use Prim.Native.Nat.{suc, _+_, _-_, _≤_}
 use native.Mathlib.Omega.{arith}
-use mathlib.Core.Path.{_≡_, refl, ap}
+use mathlib.Core.Path.{_≡_, refl}
 use borrow.Author.Needs.{needs}
 use mir.Syntax.{w64}
 use mir.Val.{Fits}
 use Rattle.book.specs.declared.Segment.{Segment}
 use Rattle.supply.specs.Sound.{SoundSegment}
 use Rattle.supply.proofs.Sound.{price-fits}
-use Rattle.choicerecord.specs.Records.{segmentAt, firstSegments, chosen}
+use Rattle.choicerecord.specs.Records.{segmentAt, firstSegments}
 use Rattle.meritorder.proofs.Filling.{Filling, extra-left, filling-none, sound-this, within-end, total-fits, filling-next, filling-all}
 use Rattle.meritorder.proofs.fill.Statement.{statement}
 use Rattle.meritorder.proofs.fill.Tie as tie

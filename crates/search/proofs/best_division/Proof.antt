@@ -1,5 +1,5 @@
 -- The search from no choice, with the classes of the book and from a division of a complete choice or none, finds the award.
-use Prim.Native.Nat.{ℕ, _≤_}
+use Prim.Native.Nat.{_≤_}
 use native.Mathlib.Omega.{arith}
 use mathlib.Core.List.{List, []}
 use mathlib.Core.Option.{Option}
