@@ -112,7 +112,7 @@ module _ (table : TableEntries) (book : Book) (held : length (book .bids) ≡ 8)
   pub bought-up-to : clearSampled table b .award .bought .0 ≤ 2 * mostBlanks
   bought-up-to =
       let sold = meets-high (b .order) _ (no-other-cheaper table book held accepted .division .sum) in
-      omega (arith, bought-is table book held accepted, sold, book-accepted b is-accepted .demand-high)
+      omega (arith, bought-is table book held accepted, sold, book-accepted b is-accepted .demand-high, book-accepted b is-accepted .allowance-high)
 
   pub total-from-zero : UpTo mostTotal (clearSampled table b .award .total .0)
   total-from-zero = award-up-to b bids few (awarded (clearSampled table b .award)) (no-other-cheaper table book held accepted)

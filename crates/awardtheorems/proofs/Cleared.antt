@@ -119,19 +119,21 @@ module _ (table : TableEntries) (book : Book) (held : length (book .bids) ≡ 8)
         ap (λ (x : Clearing). awarded (x .award)) (c .answer)
         ∙ record-awarded table b (few-bids b (c .accepted)) (bids-counted book held (c .accepted)) (c .award) many
 
-    -- the award is one of the divisions, every other division costs more, or costs the same and gives less to the first bidder at
-    -- whom the two differ; the total is its cost
+    -- the award is one of the divisions; every other division costs more; or costs the same and has more blanks; or as many, and gives less to
+    -- the first bidder at whom the two differ; the total is its cost
     pub no-other-cheaper : IsAwardOf b (awarded (answer .award))
     no-other-cheaper = subst (IsAwardOf b) (sym says) is-award
 
     -- what is bought is what the bidders sell
     pub bought-is : answer .award .bought .0 ≡ bought (awarded (answer .award) .quantities)
-    unfolding awardRecord
-    bought-is =
+    bought-is = no-other-cheaper .blanks
+
+    -- with allowance 0 that is the demand
+    pub bought-exactly : b .order .allowance .0 ≡ 0 → answer .award .bought .0 ≡ b .order .demand .0
+    bought-exactly exact =
         let rs = awarded (answer .award) .quantities in
-        let d = no-other-cheaper .division .sum in
-        let sold : b .order .demand .0 ≡ bought rs = omega (arith, meets-low (b .order) (bought rs) d, meets-high (b .order) (bought rs) d) in
-        ap (λ (x : Clearing). x .award .bought .0) (c .answer) ∙ sold
+        let sum = no-other-cheaper .division .sum in
+        omega (arith, bought-is, meets-low (b .order) (bought rs) sum, meets-high (b .order) (bought rs) sum)
 
     -- the row of each bid is that of what it sells; the rows past the bids are zeros and `none`
     pub row-is : (i : ℕ) → i < b .count

@@ -38,7 +38,7 @@ module _ (table : TableEntries) (b : BookEntries) where
     unfolding awardRecord
     record-awarded =
         let sold = ap (map (λ (row : Row). row .quantity .0)) rows-listed ∙ rows-quantities 0 (b .bids) (award .quantities) as-many in
-        λ i. record { cost = award .cost; quantities = sold i }
+        λ i. record { cost = award .cost; blanks = award .blanks; quantities = sold i }
 
     -- each row is that of its bid
     pub record-row : (none : BidEntries) (i : ℕ) → i < b .count

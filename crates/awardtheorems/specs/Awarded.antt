@@ -1,4 +1,4 @@
--- What an award says is sold: the quantities of its rows, and the total.
+-- What an award says is sold: the quantities of its rows, what is bought, and the total.
 use Prim.Native.Nat.{ℕ}
 use mathlib.Core.List.{List, map}
 use lib.ListN.{take, getD}
@@ -15,4 +15,4 @@ abbrev pub rowAt : Award → ℕ → Row
 rowAt a i = getD (a .rows) i noRow
 
 abbrev pub awarded : Award → Priced
-awarded a = record { cost = a .total .0; quantities = map (λ (row : Row). row .quantity .0) (rowsOf a) }
+awarded a = record { cost = a .total .0; blanks = a .bought .0; quantities = map (λ (row : Row). row .quantity .0) (rowsOf a) }

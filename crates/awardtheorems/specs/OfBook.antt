@@ -7,10 +7,11 @@ use Rattle.divisions.specs.Division.{Division}
 use Rattle.divisions.specs.Award.{Priced}
 use Rattle.divisions.specs.IsAward.{IsAward}
 
--- every way to divide the demand among the bids
+-- every way to divide among the bids what the order takes
 abbrev pub DivisionOf : BookEntries → List ℕ → Type 0
 DivisionOf b rs = Division (b .order) (suppliesOf (b .bids)) rs
 
--- the best of them: every other costs more, or costs the same and gives less to the first bidder at whom the two differ
+-- the best of them: every other costs more; or costs the same and has more blanks; or as many, and gives less to the first bidder at whom the
+-- two differ
 abbrev pub IsAwardOf : BookEntries → Priced → Type 0
 IsAwardOf b award = IsAward (b .order) (suppliesOf (b .bids)) award

@@ -16,7 +16,7 @@ use Rattle.refusal.proofs.Firsts.{all-passed, test-holds}
 use Rattle.book.specs.declared.Bid.{Bid}
 use Rattle.book.specs.declared.Book.{Book}
 use Rattle.book.specs.Entries.{BidEntries, BookEntries, bidEntries, bookEntries}
-use Rattle.book.specs.Rules.{within, segmentInRange, bidInRange, bidVerdict, bidsVerdict, bookVerdict}
+use Rattle.book.specs.Rules.{within, segmentInRange, bidInRange, bidVerdict, bidsVerdict, orderInRange, bookVerdict}
 use Rattle.book.specs.Accepted.{AcceptedBid, AcceptedLine, AcceptedBook}
 use Rattle.book.proofs.Records.{noBid}
 use Rattle.book.proofs.InRange.{within-low, within-high}
@@ -52,13 +52,16 @@ unfolding bidInRange
 range-without b e = rw e (ap (λ (t : Bool). t && every segmentInRange (b .segments)) (and-true (within 1 9999 (b .bidder))))
 
 pub book-accepted : (b : BookEntries) → bookVerdict b ≡ Accepted → AcceptedBook b
-unfolding bookVerdict
+unfolding bookVerdict orderInRange
 book-accepted b e =
-    let (demand, (some-bids, (bids, (few-bids, _)))) = all-passed (_ ∷ _ ∷ _ ∷ _ ∷ []) e in
-    let asked = test-holds _ _ _ demand in
+    let (asked, (some-bids, (bids, (few-bids, _)))) = all-passed (_ ∷ _ ∷ _ ∷ _ ∷ []) e in
+    let ranged = test-holds _ _ _ asked in
+    let demand = both-left (within 1 1000000 (b .order .demand .0)) (within 0 1000000 (b .order .allowance .0)) ranged in
+    let allowance = both-right (within 1 1000000 (b .order .demand .0)) (within 0 1000000 (b .order .allowance .0)) ranged in
     record {
-      demand-low = within-low 1 1000000 (b .order .demand .0) asked;
-      demand-high = within-high 1 1000000 (b .order .demand .0) asked;
+      demand-low = within-low 1 1000000 (b .order .demand .0) demand;
+      demand-high = within-high 1 1000000 (b .order .demand .0) demand;
+      allowance-high = within-high 0 1000000 (b .order .allowance .0) allowance;
       count-low = ltb-true 0 (b .count) (test-holds _ _ _ some-bids);
       count-high = leb-true (b .count) 8 (test-holds _ _ _ few-bids);
       bids = bids;

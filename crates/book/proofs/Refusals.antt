@@ -15,7 +15,7 @@ use Rattle.refusal.specs.declared.Rule.the-variants.{BidCount, SegmentCount, Ra
 use Rattle.refusal.specs.declared.Verdict.the-variants.{Refused}
 use Rattle.refusal.proofs.Refusals.{RefusedBy, by-first, by-unless, isOther, Other, never-other}
 use Rattle.book.specs.Entries.{BidEntries, BookEntries}
-use Rattle.book.specs.Rules.{within, bidInRange, segmentsRise, startNotNegative, bidVerdict, bidsVerdict, bookVerdict}
+use Rattle.book.specs.Rules.{within, bidInRange, segmentsRise, startNotNegative, bidVerdict, orderInRange, bidsVerdict, bookVerdict}
 
 -- the rules for a bid's line, and for a record
 abbrev lineRules : List Rule
@@ -68,11 +68,11 @@ module _ (P : Rule → Type 0) (each : All P recordRules) (most : ℕ) where
   by-book : (b : BookEntries) → 10 ≤ most → 1 + length (b .bids) ≤ most → RefusedBy Named (bookVerdict b)
   unfolding bookVerdict
   by-book b l l′ =
-      let demand = within 1 1000000 (b .order .demand .0) in
+      let asked = orderInRange (b .order) in
       let some-bid = ltb 0 (b .count) in
       let few = leb (b .count) 8 in
-      by-first Named (unless demand Range 1 ∷ unless some-bid BidCount 2 ∷ bidsVerdict 2 0 (b .bids) ∷ unless few BidCount 10 ∷ []) (
-        by-unless Named demand Range 1 (each .1 .1 .0, omega arith),
+      by-first Named (unless asked Range 1 ∷ unless some-bid BidCount 2 ∷ bidsVerdict 2 0 (b .bids) ∷ unless few BidCount 10 ∷ []) (
+        by-unless Named asked Range 1 (each .1 .1 .0, omega arith),
         (
           by-unless Named some-bid BidCount 2 (each .0, omega arith),
           (by-lines 2 0 (b .bids) (omega arith), (by-unless Named few BidCount 10 (each .0, omega arith), tt)),

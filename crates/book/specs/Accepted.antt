@@ -25,6 +25,7 @@ pub record AcceptedLine (before : ℕ) (b : BidEntries) : Type 0 where
 pub record AcceptedBook (b : BookEntries) : Type 0 where
   pub demand-low : 1 ≤ b .order .demand .0
   pub demand-high : b .order .demand .0 ≤ 1000000
+  pub allowance-high : b .order .allowance .0 ≤ 1000000
   pub count-low : 1 ≤ b .count
   pub count-high : b .count ≤ 8
   pub bids : bidsVerdict 2 0 (b .bids) ≡ Accepted

@@ -1,4 +1,4 @@
--- Rules 3 to 8 of document 01, section "What is turned down", with the carriage of document 02, change 2: the first fault of a book, its
+-- Rules 3 to 8 of document 01, section "What is turned down", with the carriage and the allowance of document 02, changes 2 and 5: the first fault of a book, its
 -- rule and its line.
 -- Lines are taken from the first, and in a line the rules by their numbers. The demand is line 1, the first bid line 2.
 use Prim.Native.Nat.{ℕ, _+_}
@@ -14,6 +14,7 @@ use Rattle.refusal.specs.declared.Rule.the-variants.{BidCount, SegmentCount, Ra
 use Rattle.refusal.specs.declared.Verdict.{Verdict}
 use Rattle.refusal.specs.declared.Verdict.the-variants.{Accepted}
 use Rattle.book.specs.declared.Segment.{Segment}
+use Rattle.book.specs.declared.Order.{Order}
 use Rattle.book.specs.Entries.{BidEntries, BookEntries}
 
 -- from low to high, both counted
@@ -64,11 +65,15 @@ unfoldable pub bidsVerdict : ℕ → ℕ → List BidEntries → Verdict
 bidsVerdict line before [] = Accepted
 bidsVerdict line before (b ∷ bs) = firstOf (bidVerdict line before b ∷ bidsVerdict (line + 1) (b .bidder) bs ∷ [])
 
+-- rule 5, of an order
+unfoldable pub orderInRange : Order → Bool
+orderInRange order = within 1 1000000 (order .demand .0) && within 0 1000000 (order .allowance .0)
+
 -- a book: a record holds eight bids, so a ninth is known by the count alone
 unfoldable pub bookVerdict : BookEntries → Verdict
 bookVerdict b =
     firstOf
-    (unless (within 1 1000000 (b .order .demand .0)) Range 1
+    (unless (orderInRange (b .order)) Range 1
     ∷ unless (ltb 0 (b .count)) BidCount 2
     ∷ bidsVerdict 2 0 (b .bids)
     ∷ unless (leb (b .count) 8) BidCount 10

@@ -23,9 +23,10 @@ pub struct Bid {
     pub segments: [Segment; 6],
 }
 
-// What the mints ask for.
+// What the mints ask for: so many blanks, and how many more they accept.
 pub struct Order {
     pub demand: Blanks,
+    pub allowance: Blanks,
 }
 
 // A bid book: the order, and the first `count` of the bids; the others are ignored. A count may say that there

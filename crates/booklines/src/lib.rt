@@ -68,17 +68,18 @@ fn bids(text: &[u8], from: Cursor, head: Book) -> ParsedBook
     ParsedBook { book, next }
 }
 
-// The demand's line, in the record of a book with no bid.
+// The line of the demand and the allowance, in the record of a book with no bid.
 fn demand(text: &[u8], from: Cursor) -> ParsedBook
     requires { ⌜ from .at ≤ length (now text) ⌝ }
     ensures { λ r. ⌜ ParsesDemand (now (text .entry)) from (r .book) (r .next) ⌝ }
     ensures { λ r. ⌜ r .next .at ≤ length (now (text .entry)) ⌝ }
 {
-    let parsed = numberline::line(text, from, b"(demand ", 0, b")\n");
+    let parsed = numberline::line(text, from, b"(demand ", 1, b")\n");
     let next = parsed.next;
     let mut book = bookrecord::empty_book();
     let demand = Blanks(parsed.first);
-    let order = Order { demand };
+    let allowance = Blanks(parsed.second);
+    let order = Order { demand, allowance };
     book.order = order;
     ParsedBook { book, next }
 }

@@ -39,7 +39,10 @@ pub fn empty_book() -> Book
 {
     let bid = empty_bid();
     Book {
-        order: Order { demand: Blanks(0) },
+        order: Order {
+            demand: Blanks(0),
+            allowance: Blanks(0),
+        },
         count: 0,
         bids: [bid; 8],
     }

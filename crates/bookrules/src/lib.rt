@@ -1,22 +1,34 @@
 // A bid book checked by rules 3 to 8 of document 01, and the room figure.
 ghost use mathlib.Core.Path.{_≡_};
 ghost use Rattle.book.specs.Entries.{bookEntries};
-ghost use Rattle.book.specs.Rules.{bookVerdict};
+ghost use Rattle.book.specs.Rules.{orderInRange, bookVerdict};
 ghost use Rattle.book.specs.Room.{roomOf};
 
 mod figure;
 mod lines;
 
 use book::Book;
+use book::Order;
 use book::RoomFigure;
 use refusal::Rule;
 use refusal::Verdict;
+
+// Rule 5, of an order.
+fn order_in_range(order: Order) -> bool
+    ensures { λ r. ⌜ r ≡ orderInRange order ⌝ }
+{
+    if !segmentrules::within(1, 1_000_000, order.demand.0) {
+        return false;
+    }
+    segmentrules::within(0, 1_000_000, order.allowance.0)
+}
 
 // Accepts a record, or names its first fault with its line.
 pub fn check(book: Book) -> Verdict
     ensures { λ r. ⌜ r ≡ bookVerdict (bookEntries book) ⌝ }
 {
-    if !segmentrules::within(1, 1_000_000, book.order.demand.0) {
+    let order = book.order;
+    if !order_in_range(order) {
         return Verdict::Refused(Rule::Range, 1);
     }
     let count = book.count;
@@ -33,7 +45,7 @@ pub fn check(book: Book) -> Verdict
     Verdict::Accepted
 }
 
-// How many bytes the book's text takes at most: 17 + 17 for each bid + 45 for each segment.
+// How many bytes the book's text takes at most: 25 + 17 for each bid + 45 for each segment.
 pub fn room(book: Book) -> RoomFigure
     ensures { λ r. ⌜ r ≡ roomOf (bookEntries book) ⌝ }
 {
@@ -41,6 +53,6 @@ pub fn room(book: Book) -> RoomFigure
     if let Verdict::Refused(_, _) = verdict {
         return RoomFigure { verdict, bytes: 0 };
     }
-    let bytes = 17 + figure::room_of_bids(book);
+    let bytes = 25 + figure::room_of_bids(book);
     RoomFigure { verdict, bytes }
 }

@@ -49,6 +49,7 @@ module _ (b : Book) (arrays : Arrays b) (accepted : bookVerdict (bookEntries b) 
       let arrays = all-take SixSegments (b .count) (b .bids) (arrays .segments) in
       record {
         demand = few-digits (b .order .demand .0) (omega arith);
+        allowance = few-digits (b .order .allowance .0) (omega (arith, a .allowance-high));
         count = rw length-map (sym (length-take-le (b .count) (b .bids) few));
         some = a .count-low;
         bids = all-map bidEntries WellFormedBid bs (all-from _ _ well-formed-bid bs (all-both _ SixSegments bs lines arrays));

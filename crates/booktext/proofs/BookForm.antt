@@ -93,14 +93,14 @@ pub head-laws : Laws head
 head-laws = framed-laws (ascii "(demand ") (numbers-laws bookFurther) (ascii ")\n") (λ r l k. omega arith)
 
 abbrev fromBook : BookEntries → Head × List BidEntries
-fromBook b = (b .order .demand .0, b .bids)
+fromBook b = ((b .order .demand .0, b .order .allowance .0), b .bids)
 
 same-book : Same (sequence head bids) (λ x. bookOf (x .0) (x .1)) fromBook WellFormedBook bookText
 unfolding bookHead bookText
 same-book = record {
-  to-valid = λ b v. ((omega arith, v .demand), (omega (arith, v .count, v .some), v .bids));
+  to-valid = λ b v. (((omega arith, v .demand), (omega arith, v .allowance)), (omega (arith, v .count, v .some), v .bids));
   back = λ b v. rw (sym (v .count));
-  from-valid = λ x v. record { demand = v .0 .1; count = refl; some = v .1 .0; bids = v .1 .1 };
+  from-valid = λ x v. record { demand = v .0 .0 .1; allowance = v .0 .1 .1; count = refl; some = v .1 .0; bids = v .1 .1 };
   same-text = λ x v. simp append-assoc;
 }
 

@@ -1,4 +1,4 @@
--- The room figure: an accepted book's text is no longer, and at most 2,313 bytes. Assumes nothing.
+-- The room figure: an accepted book's text is no longer, and at most 2,321 bytes. Assumes nothing.
 use Prim.Native.Nat.{ℕ, suc, _+_, _*_, _≤_}
 use native.Mathlib.Omega.{arith}
 use mathlib.Core.Bool.{true}
@@ -73,16 +73,17 @@ most-room [] h = omega arith
 most-room (b ∷ bs) h = omega (arith, h .0 .count-high, most-room bs (h .1))
 
 module _ (b : BookEntries) (well-formed : WellFormedBook b) (accepted : bookVerdict b ≡ Accepted) where
-  pub room-bounds : length (bookText b) ≤ 17 + roomOfBids (b .bids)
+  pub room-bounds : length (bookText b) ≤ 25 + roomOfBids (b .bids)
   unfolding bookHead bookText
   room-bounds =
       let demand = seven (b .order .demand .0) (book-accepted b accepted .demand-high) in
+      let allowance = seven (b .order .allowance .0) (book-accepted b accepted .allowance-high) in
       let each =
       all-from _ RoomFor bid-short (b .bids)
       (all-both WellFormedBid AcceptedBid (b .bids) (well-formed .bids) (all-accepted b accepted)) in
       simp length-append (omega (arith, bids-short (b .bids) each))
 
-  pub text-short : length (bookText b) ≤ 2313
+  pub text-short : length (bookText b) ≤ 2321
   text-short =
       let few = book-accepted b accepted .count-high in
       omega (arith, room-bounds, most-room (b .bids) (all-accepted b accepted), well-formed .count)

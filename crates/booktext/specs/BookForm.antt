@@ -58,9 +58,9 @@ bid = via (sequence bid-head segments-line) (λ x. bidOf (x .0) (x .1 .0)) WellF
 abbrev pub bids : Form (List BidEntries)
 bids = one-or-more 40 bid
 
--- what stands before them: the line of the demand, and no further number
+-- what stands before them: the line of the demand, and one further number, the allowance
 abbrev pub bookFurther : ℕ
-bookFurther = 0
+bookFurther = 1
 
 abbrev pub Head : Type 0
 Head = Numbers bookFurther
@@ -69,7 +69,7 @@ abbrev pub head : Form Head
 head = framed (ascii "(demand ") (numbers bookFurther) (ascii ")\n")
 
 abbrev pub orderOf : Head → Order
-orderOf h = record { demand = record { 0 = h } }
+orderOf h = record { demand = record { 0 = h .0 }; allowance = record { 0 = h .1 } }
 
 -- the book
 abbrev pub bookOf : Head → List BidEntries → BookEntries

@@ -1,5 +1,5 @@
--- The text of a bid book (document 01, section "The bid book", with the carriage of document 02, change 2): one form a line, each line
--- ended by byte 10.
+-- The text of a bid book (document 01, section "The bid book", with the carriage and the allowance of document 02, changes 2 and 5):
+-- one form a line, each line ended by byte 10.
 use Prim.Native.Nat.{ℕ}
 use mathlib.Core.List.{List, _++_}
 use Rattle.lists.specs.Joined.{joined}
@@ -24,9 +24,9 @@ bidHead b = ascii "(bid " ++ digits (b .bidder) ++ ascii " " ++ digits (b .carri
 unfoldable pub bidText : BidEntries → List ℕ
 bidText b = bidHead b ++ joined segmentText (b .segments) ++ ascii ")\n"
 
--- the demand, and then the bids
+-- the demand and the allowance, and then the bids
 unfoldable pub bookHead : BookEntries → List ℕ
-bookHead b = ascii "(demand " ++ digits (b .order .demand .0) ++ ascii ")\n"
+bookHead b = ascii "(demand " ++ digits (b .order .demand .0) ++ ascii " " ++ digits (b .order .allowance .0) ++ ascii ")\n"
 
 unfoldable pub bookText : BookEntries → List ℕ
 bookText b = bookHead b ++ joined bidText (b .bids)

@@ -18,7 +18,7 @@ abbrev pub emptyBid : Bid
 emptyBid = record { bidder = 0; carriage = record { 0 = 0 }; count = 0; segments = replicate 6 emptySegment }
 
 abbrev pub noOrder : Order
-noOrder = record { demand = record { 0 = 0 } }
+noOrder = record { demand = record { 0 = 0 }; allowance = record { 0 = 0 } }
 
 abbrev pub emptyBook : Book
 emptyBook = record { order = noOrder; count = 0; bids = replicate 8 emptyBid }

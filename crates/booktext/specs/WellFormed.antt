@@ -25,6 +25,7 @@ pub record WellFormedBid (b : BidEntries) : Type 0 where
 
 pub record WellFormedBook (b : BookEntries) : Type 0 where
   pub demand : ThirteenDigits (b .order .demand .0)
+  pub allowance : ThirteenDigits (b .order .allowance .0)
   pub count : b .count ≡ length (b .bids)
   pub some : 1 ≤ b .count
   pub bids : All WellFormedBid (b .bids)

@@ -94,8 +94,8 @@ fn book_head(book: Book) -> [Part; 8]
 {
     [
         Part::Number(Word::Demand, book.order.demand.0),
+        Part::Number(Word::Space, book.order.allowance.0),
         Part::Fixed(Word::CloseLine),
-        Part::Nothing,
         Part::Nothing,
         Part::Nothing,
         Part::Nothing,

@@ -51,16 +51,17 @@ fn sample(quantities: &[u64]) {
     }
 }
 
-// The first row has the demand and the count of bids, each further row the bidder, the carriage, the count of
-// segments, and the segments.
+// The first row has the demand, the allowance and the count of bids, each further row the bidder, the carriage, the count
+// of segments, and the segments.
 fn book(text: &[u8]) -> Book {
     let mut n = [0u64; 270];
     pieces::numbers(text, &mut n);
     Book {
         order: Order {
             demand: Blanks(n[0]),
+            allowance: Blanks(n[1]),
         },
-        count: n[1] as usize,
+        count: n[2] as usize,
         bids: [
             bid(&n, 27),
             bid(&n, 54),

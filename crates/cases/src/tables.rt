@@ -8,9 +8,9 @@ pub fn answer(line: &[u8], table: &[u8], quantities: &[u64], out: &mut [u8]) {
     match pieces::byte(line, 0) {
         b'l' => printed(
             table,
-            b"(demand 120)\n(bid 3 0 (seg 1 60 400 0) (seg 61 100 350 -500))\n(bid 8 0 (seg 20 80 380 1000))\n(bid 12 0 (seg 120 120 370 0))\n",
+            b"(demand 120 0)\n(bid 3 0 (seg 1 60 400 0) (seg 61 100 350 -500))\n(bid 8 0 (seg 20 80 380 1000))\n(bid 12 0 (seg 120 120 370 0))\n",
         ),
-        b'o' => printed(table, b"(demand 0)\n"),
+        b'o' => printed(table, b"(demand 0 0)\n"),
         b'w' => {
             let w = tender::write_table(table, out);
             show::output(w, out);

@@ -18,7 +18,7 @@ use Rattle.supply.proofs.Sound.{SoundSupply}
 use Rattle.divisions.specs.Award.{Priced}
 use Rattle.divisions.proofs.Order.{better-cost, better-tie}
 use Rattle.divisions.proofs.IsBest.{NotBetter}
-use Rattle.choices.specs.Choice.{starts, fits, placed, extrasOf, filled}
+use Rattle.choices.specs.Choice.{starts, ends, fits, placed, extrasOf, filled}
 use Rattle.choices.specs.Leaf.{Leaf}
 use Rattle.choices.proofs.Fill.{cost, Box, Wins, extras-bought, extras-box, box-widths}
 use Rattle.choices.proofs.Certificate.{extras-cert, insides, one-inside}
@@ -28,7 +28,11 @@ use Rattle.choices.specs.Chosen.{Chosen}
 
 -- the extras xs of the choice so far, and the extras ys of the segments e chosen for the bidders left
 abbrev pub together : List Segment → List ℕ → List Segment → List ℕ → Priced
-together c xs e ys = record { cost = pos (cost c xs + cost e ys); quantities = reverseAux (placed c xs) (placed e ys) }
+together c xs e ys = record {
+  cost = pos (cost c xs + cost e ys);
+  blanks = bought (placed c xs) + bought (placed e ys);
+  quantities = reverseAux (placed c xs) (placed e ys);
+}
 
 -- d is these quantities, which the order takes, with at most one bidder strictly inside
 pub record Divides (order : Order) (supplies : List (List Segment)) (c : List Segment) (d : Priced) : Type 0 where
@@ -45,19 +49,36 @@ pub record Divides (order : Order) (supplies : List (List Segment)) (c : List Se
 -- the latest bidder so far, taken as the first of those left
 shift : (s : Segment) (x : ℕ) (c : List Segment) (xs : List ℕ) (e : List Segment) (ys : List ℕ)
     → together (s ∷ c) (x ∷ xs) e ys ≡ together c xs (s ∷ e) (x ∷ ys)
+unfolding bought
 shift s x c xs e ys =
     let sum : cost (s ∷ c) (x ∷ xs) + cost e ys ≡ cost c xs + cost (s ∷ e) (x ∷ ys) = omega arith in
-    λ i. record { cost = pos (sum i); quantities = reverseAux (placed c xs) (placed (s ∷ e) (x ∷ ys)) }
+    let blanks : bought (placed (s ∷ c) (x ∷ xs)) + bought (placed e ys) ≡ bought (placed c xs) + bought (placed (s ∷ e) (x ∷ ys)) = omega arith in
+    λ i. record { cost = pos (sum i); blanks = blanks i; quantities = reverseAux (placed c xs) (placed (s ∷ e) (x ∷ ys)) }
 
 -- A complete choice.
 
 wins-better : (c : List Segment) (xs ys : List ℕ) → Box c xs → Box c ys → Wins c xs ys → NotBetter (together c ys [] []) (together c xs [] [])
-wins-better c xs ys b d (inl h) = inr (better-cost (together c xs [] []) (together c ys [] []) (lt-ltb (cost c xs + 0) (cost c ys + 0) (omega arith)))
-wins-better c xs ys b d (inr (h, inl k)) = inl (ap (λ (l : List ℕ). together c l [] []) k)
-wins-better c xs ys b d (inr (h, inr k)) =
-    let same : cost c xs + 0 ≡ cost c ys + 0 = omega arith in
-    let more = less-more (placed c ys) (placed c xs) [] [] (placed-less c ys xs d b k) in
-    inr (better-tie (together c xs [] []) (together c ys [] []) (ap pos same) more)
+wins-better c xs ys b d w = go w
+  where
+    x : Priced
+    x = together c xs [] []
+
+    y : Priced
+    y = together c ys [] []
+
+    -- what one takes more it has more blanks
+    more-blanks : y .blanks + bought xs ≡ x .blanks + bought ys
+    more-blanks = omega (arith, placed-bought c xs b, placed-bought c ys d)
+
+    same : cost c xs ≡ cost c ys → x .cost ≡ y .cost
+    same h = ap (λ (n : ℕ). pos (n + 0)) h
+
+    go : Wins c xs ys → NotBetter y x
+    go (inl h) = inr (better-cost x y (lt-ltb (cost c xs + 0) (cost c ys + 0) (omega arith)))
+    go (inr (h, inl n)) = inr (better-tie x y (same h) (inl (omega (arith, more-blanks))))
+    go (inr (h, inr (n, inl k))) = inl (ap (λ (l : List ℕ). together c l [] []) k)
+    go (inr (h, inr (n, inr k))) =
+        inr (better-tie x y (same h) (inr (omega (arith, more-blanks), less-more (placed c ys) (placed c xs) [] [] (placed-less c ys xs d b k))))
 
 module _ (order : Order) (c : List Segment) (sound : All SoundSegment c) where
   abbrev left : ℕ
@@ -66,11 +87,16 @@ module _ (order : Order) (c : List Segment) (sound : All SoundSegment c) where
   abbrev given : List ℕ
   given = extrasOf order c
 
-  filled-is : filled order c ≡ together c given [] []
-  unfolding filled
-  filled-is =
+  -- where the demand can be given, it is; what the starts pass it by is over it
+  given-all : order .demand .0 ≤ ends c → bought (placed c given) ≡ starts c + (order .demand .0 - starts c)
+  given-all high = omega (arith, placed-bought c given (extras-box left c), extras-bought left c (omega (arith, ends-widths c sound)))
+
+  filled-is : order .demand .0 ≤ ends c → filled order c ≡ together c given [] []
+  unfolding filled bought
+  filled-is high =
       let sum : cost c given ≡ cost c given + 0 = omega arith in
-      λ i. record { cost = (cost-with c given sound ∙ ap pos sum) i; quantities = reverse (placed c given) }
+      let blanks : starts c + (order .demand .0 - starts c) ≡ bought (placed c given) + 0 = omega (arith, given-all high) in
+      λ i. record { cost = (cost-with c given sound ∙ ap pos sum) i; blanks = blanks i; quantities = reverse (placed c given) }
 
   leaf-divides : fits order c ≡ true → Divides order [] c (filled order c)
   unfolding bought
@@ -78,8 +104,7 @@ module _ (order : Order) (c : List Segment) (sound : All SoundSegment c) where
       let low = fits-low order c f in
       let high = fits-high order c f in
       let box = extras-box left c in
-      let sum = placed-bought c given box in
-      let given-all = extras-bought left c (omega (arith, ends-widths c sound)) in
+      let all = given-all high in
       record {
         extras = given;
         later = [];
@@ -88,7 +113,7 @@ module _ (order : Order) (c : List Segment) (sound : All SoundSegment c) where
         chosen = tt;
         enough = omega arith;
         not-over = omega arith;
-        is = filled-is;
+        is = filled-is high;
         few = omega (arith, one-inside c given (extras-cert left c));
       }
 
@@ -104,7 +129,8 @@ module _ (order : Order) (c : List Segment) (sound : All SoundSegment c) where
         let sum = placed-bought c xs b in
         let all : bought given ≡ left = extras-bought left c (omega (arith, box-widths c xs b)) in
         let box = extras-box left c in
-        rw filled-is (wins-better c given xs box b (cert-wins c given xs (extras-cert left c) box b (omega arith)))
+        let high : order .demand .0 ≤ ends c = omega (arith, box-widths c xs b, ends-widths c sound) in
+        rw (filled-is high) (wins-better c given xs box b (cert-wins c given xs (extras-cert left c) box b (omega arith)))
 
 -- Any choice so far.
 

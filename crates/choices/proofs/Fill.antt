@@ -41,9 +41,11 @@ Less [] xs = ⊥
 Less (y ∷ ys) [] = ⊥
 Less (y ∷ ys) (x ∷ xs) = Less ys xs ⊎ ((ys ≡ xs) × (y < x))
 
--- xs costs less than ys; or it costs the same, and is ys or gives more to the first bidder at whom the two differ
+-- xs costs less than ys; or it costs the same and takes less; or as much, and is ys or gives more to the first bidder at whom the two differ
 abbrev pub Wins : List Segment → List ℕ → List ℕ → Type 0
-Wins c xs ys = (cost c xs < cost c ys) ⊎ ((cost c xs ≡ cost c ys) × ((ys ≡ xs) ⊎ Less ys xs))
+Wins c xs ys =
+    (cost c xs < cost c ys)
+    ⊎ ((cost c xs ≡ cost c ys) × ((bought xs < bought ys) ⊎ ((bought xs ≡ bought ys) × ((ys ≡ xs) ⊎ Less ys xs))))
 
 -- how much of a segment counts at a unit price: all of it, or nothing
 abbrev pub Counts : ℕ → Segment → Type 0

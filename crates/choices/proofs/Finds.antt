@@ -49,6 +49,7 @@ module _ (order : Order) (supplies : List (List Segment)) (sound : All SoundSupp
       subst (PricedDivision order supplies) (sym (p .is)) (record {
         division = record { allocation = chosen-allocation supplies e ys sound (p .chosen); sum = meets-when order _ (omega (arith, p .enough)) (omega (arith, p .not-over)) };
         cost = chosen-priced e ys (p .chosen);
+        blanks = omega arith;
       })
 
   division-found : (d : Priced) → PricedDivision order supplies d → (t : Priced) × Leaf order supplies [] t × NotBetter d t
@@ -59,7 +60,8 @@ module _ (order : Order) (supplies : List (List Segment)) (sound : All SoundSupp
       let low = meets-low order (bought (placed e ys)) sum in
       let high = meets-high order (bought (placed e ys)) sum in
       let price : pos (0 + cost e ys) ≡ d .cost = chosen-priced e ys a ∙ ap (costOf supplies) (sym q) ∙ sym (p .cost) in
-      let same : together [] [] e ys ≡ d = λ i. record { cost = price i; quantities = sym q i } in
+      let blanks : 0 + bought (placed e ys) ≡ d .blanks = omega (arith, ap bought q, p .blanks) in
+      let same : together [] [] e ys ≡ d = λ i. record { cost = price i; blanks = blanks i; quantities = sym q i } in
       let (t, l, n) = as-good order supplies [] [] e ys sound tt tt a (omega arith) (omega arith) in
       (t, l, subst (λ (x : Priced). NotBetter x t) same n)
 

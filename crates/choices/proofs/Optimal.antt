@@ -1,11 +1,11 @@
 -- A point of a choice's box that has the certificate is the best of the box. Assumes nothing.
 use Prim.Native.Nat.{ℕ, suc, _+_, _*_, _-_, _≤_, _<_}
 use native.Mathlib.Decide.{decLt}
-use native.Mathlib.Nat.{mul-le-mul-right}
+use native.Mathlib.Nat.{mul-le-mul-left, mul-le-mul-right}
 use native.Mathlib.Omega.{arith}
 use mathlib.Core.List.{List, [], _∷_}
 use mathlib.Core.Logic.{_⊎_, inl, inr, ⊎-elim}
-use mathlib.Core.Path.{_≡_, refl, ap, ap₂}
+use mathlib.Core.Path.{_≡_, refl, sym, ap, ap₂}
 use Rattle.book.specs.declared.Segment.{Segment}
 use Rattle.supply.specs.Allocation.{bought}
 use Rattle.divisions.proofs.Signed.{order}
@@ -109,10 +109,19 @@ tied l (s ∷ c) (x ∷ xs) (y ∷ ys) z a b p q e t = go (order y x) (λ k. tie
     go (inr (inl m)) later = ⊎-elim (λ k. inl (ap₂ _∷_ m k)) (λ k. inr (inl k)) (later (omega arith))
     go (inr (inr m)) later = ⊎-elim (λ k. absurd (omega (arith, ap bought k))) (λ k. inr (inl k)) (later (omega arith))
 
-pub cert-wins : (c : List Segment) (xs ys : List ℕ) → Cert c xs → Box c xs → Box c ys → bought ys ≡ bought xs → Wins c xs ys
+-- So of the points that take no less, none is better: what they take more costs at least nothing.
+
+pub cert-wins : (c : List Segment) (xs ys : List ℕ) → Cert c xs → Box c xs → Box c ys → bought xs ≤ bought ys → Wins c xs ys
 cert-wins c xs ys z p q t =
     let (l, a, b) = level c xs z in
-    let e : l * bought ys ≡ l * bought xs = ap (λ (n : ℕ). l * n) t in
+    let over : l * bought xs ≤ l * bought ys = mul-le-mul-left l t in
     ⊎-elim (λ k. inl k)
-    (⊎-elim (λ k. inr (k, tied l c xs ys z a b p q (omega arith) (omega arith))) (λ k. absurd (omega (arith, no-cheaper l c xs ys a b p q))))
+    (⊎-elim (λ k. inr (k, same l a b k)) (λ k. absurd (omega (arith, no-cheaper l c xs ys a b p q))))
     (order (cost c xs) (cost c ys))
+  where
+    same : (l : ℕ) → Under l c xs → Open l c xs → cost c xs ≡ cost c ys
+        → (bought xs < bought ys) ⊎ ((bought xs ≡ bought ys) × ((ys ≡ xs) ⊎ Less ys xs))
+    same l a b k =
+        ⊎-elim (λ m. inl m)
+        (⊎-elim (λ m. inr (m, tied l c xs ys z a b p q (ap₂ _+_ k (ap (λ (n : ℕ). l * n) (sym m))) (omega arith))) (λ m. absurd (omega arith)))
+        (order (bought xs) (bought ys))

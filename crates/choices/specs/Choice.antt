@@ -65,10 +65,14 @@ costWith [] xs = pos 0
 costWith (s ∷ c) [] = pos 0
 costWith (s ∷ c) (x ∷ xs) = priceOn s (s .start .0 + x) +ℤ costWith c xs
 
--- what the demand leaves over the starts, given out
+-- what the demand leaves over the starts, given out; where the starts reach or pass the demand, nothing
 abbrev pub extrasOf : Order → List Segment → List ℕ
 extrasOf order c = extras (order .demand .0 - starts c) c
 
--- the quantities of a choice, in book order, and their cost
+-- the quantities of a choice, in book order, and their cost: as many blanks as the demand, or as the starts add up to where these pass it
 unfoldable pub filled : Order → List Segment → Priced
-filled order c = record { cost = costWith c (extrasOf order c); quantities = reverse (placed c (extrasOf order c)) }
+filled order c = record {
+  cost = costWith c (extrasOf order c);
+  blanks = starts c + (order .demand .0 - starts c);
+  quantities = reverse (placed c (extrasOf order c));
+}

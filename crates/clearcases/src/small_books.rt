@@ -143,6 +143,7 @@ pub fn record(book: SmallBook) -> Book {
     Book {
         order: Order {
             demand: Blanks(book.demand),
+            allowance: Blanks(0),
         },
         count: book.count,
         bids: [a, b, c, a, b, c, a, b],

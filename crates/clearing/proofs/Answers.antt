@@ -49,7 +49,7 @@ module _ (table : TableEntries) (b : BookEntries) where
 abbrev awarded : Book → MaybeDivision → List Row → Clearing
 awarded book best rows = record {
   verdict = Accepted;
-  award = record { demand = book .order .demand; bought = book .order .demand; total = best .cost; count = book .count; rows = rows };
+  award = record { demand = book .order .demand; bought = best .bought; total = best .cost; count = book .count; rows = rows };
 }
 
 -- From the search's answer for the record of an accepted book: that there is no division, or the award.

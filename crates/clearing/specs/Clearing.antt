@@ -33,7 +33,7 @@ rowsFrom table b i (bid ∷ bids) (r ∷ rs) = rowOf table bid r (totalWithout b
 unfoldable pub awardRecord : TableEntries → BookEntries → Priced → Award
 awardRecord table b award = record {
   demand = b .order .demand;
-  bought = b .order .demand;
+  bought = record { 0 = award .blanks };
   total = record { 0 = award .cost };
   count = b .count;
   rows = padded 8 noRow (rowsFrom table b 0 (b .bids) (award .quantities));

@@ -62,7 +62,7 @@ pub fn clear_sampled(table: Table, book: Book) -> Clearing
         return refused(Verdict::Refused(Rule::NotCovered, 0));
     }
     let demand = book.order.demand;
-    let bought = demand;
+    let bought = best.bought;
     let total = best.cost;
     let count = book.count;
     let rows = rows(table, book, best);

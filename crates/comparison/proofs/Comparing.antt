@@ -11,7 +11,7 @@ use lib.Seq.{slice}
 use lib.Signed.{leZ}
 use Rattle.lists.proofs.Slices.{slice-next, slice-done}
 use Rattle.money.specs.declared.Blanks.{Blanks}
-use Rattle.divisions.specs.Award.{Priced, givesMore, better, pick}
+use Rattle.divisions.specs.Award.{Priced, givesMore, winsTie, better, pick}
 use Rattle.divisions.proofs.Signed.{less-not, at-most-either}
 use Rattle.comparison.specs.declared.MaybeDivision.{MaybeDivision}
 use Rattle.comparison.specs.Records.{blanksIn, divisionIn, found}
@@ -56,7 +56,7 @@ no-more a b i n h k = rw (slice-done (blanksIn a) i n h k)
 -- Costs: the code asks whether each is at most the other.
 
 module _ (a b : Priced) where
-  by-cost : better a b ≡ not (leZ (b .cost) (a .cost)) || (leZ (a .cost) (b .cost) && givesMore (a .quantities) (b .quantities))
+  by-cost : better a b ≡ not (leZ (b .cost) (a .cost)) || (leZ (a .cost) (b .cost) && winsTie a b)
   unfolding better
   by-cost = rw (less-not (a .cost) (b .cost))
 
@@ -66,8 +66,22 @@ module _ (a b : Priced) where
   pub cheaper : leZ (b .cost) (a .cost) ≡ false → better a b ≡ true
   cheaper e = by-cost ∙ rw e
 
-  pub as-cheap : leZ (a .cost) (b .cost) ≡ true → leZ (b .cost) (a .cost) ≡ true → better a b ≡ givesMore (a .quantities) (b .quantities)
+  pub as-cheap : leZ (a .cost) (b .cost) ≡ true → leZ (b .cost) (a .cost) ≡ true → better a b ≡ winsTie a b
   as-cheap e f = by-cost ∙ rw (e, f)
+
+-- Blanks: the code asks which has fewer, and else their quantities decide.
+module _ (a b : Priced) where
+  pub fewer-blanks : a .blanks < b .blanks → true ≡ winsTie a b
+  unfolding winsTie
+  fewer-blanks h = rw (lt-ltb (a .blanks) (b .blanks) h)
+
+  pub more-blanks : b .blanks < a .blanks → false ≡ winsTie a b
+  unfolding winsTie
+  more-blanks h = rw (le-ltb (a .blanks) (b .blanks) (omega arith), ne-eqb (a .blanks) (b .blanks) (λ e. omega arith))
+
+  pub as-many-blanks : b .blanks ≤ a .blanks → a .blanks ≤ b .blanks → givesMore (a .quantities) (b .quantities) ≡ winsTie a b
+  unfolding winsTie
+  as-many-blanks h k = rw (le-ltb (a .blanks) (b .blanks) h, eq-eqb (a .blanks) (b .blanks) (omega arith))
 
 -- The better of the best so far and a new division.
 module _ (n : ℕ) (best new : MaybeDivision) (is-found : new .found ≡ true) where

@@ -15,7 +15,7 @@ blanksIn quantities = map (λ (b : Blanks). b .0) quantities
 
 -- the division of n bidders that a record holds
 abbrev pub divisionIn : ℕ → MaybeDivision → Priced
-divisionIn n b = record { cost = b .cost .0; quantities = take n (blanksIn (b .quantities)) }
+divisionIn n b = record { cost = b .cost .0; blanks = b .bought .0; quantities = take n (blanksIn (b .quantities)) }
 
 -- if it holds one
 abbrev pub found : ℕ → MaybeDivision → Option Priced

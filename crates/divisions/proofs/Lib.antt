@@ -5,3 +5,4 @@ pub mod Listed
 pub mod Award
 pub mod Without
 pub mod Carriage
+pub mod Before

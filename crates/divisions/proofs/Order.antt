@@ -1,4 +1,4 @@
--- The order of divisions: `better` is strict and bought. Assumes nothing.
+-- The order of divisions: `better` is strict and total. Assumes nothing.
 use Prim.Native.Nat.{ℕ, zero, suc, _<_}
 use native.Mathlib.Omega.{arith}
 use mathlib.Core.Bool.{true, false, _&&_, false≢true}
@@ -10,7 +10,7 @@ use lib.Dec.{eqb, ltb}
 use lib.ListN.{length, take, getD}
 use lib.Signed.{ltZ, leZ}
 use Rattle.lists.proofs.Tests.{both-left, both-right, both-hold, one-holds, left-holds, right-holds}
-use Rattle.divisions.specs.Award.{Priced, givesMore, better}
+use Rattle.divisions.specs.Award.{Priced, givesMore, winsTie, better}
 use Rattle.divisions.specs.IsAward.{GivesLess}
 use Rattle.divisions.proofs.Signed.{order, less-trans, less-irrefl, less-or, at-most-same, at-most-cases}
 
@@ -95,6 +95,51 @@ more-at (x ∷ xs) (r ∷ rs) (suc i) e s h =
 pub gives-more : (xs rs : List ℕ) → length rs ≡ length xs → GivesLess rs xs → More xs rs
 gives-more xs rs e l = more-at xs rs (l .bidder) e (l .same-before) (l .less)
 
+-- ---- of two that cost the same
+
+-- fewer blanks, or as many and more to the first bidder at whom the two differ
+abbrev pub Wins : Priced → Priced → Type 0
+Wins a b = (a .blanks < b .blanks) ⊎ ((a .blanks ≡ b .blanks) × More (a .quantities) (b .quantities))
+
+module _ (a b : Priced) where
+  pub tie-when : Wins a b → winsTie a b ≡ true
+  unfolding winsTie
+  tie-when (inl h) = left-holds _ _ (lt-ltb (a .blanks) (b .blanks) h)
+  tie-when (inr (e, h)) = right-holds (ltb (a .blanks) (b .blanks)) _ (both-hold (eqb (a .blanks) (b .blanks)) _ (eq-eqb (a .blanks) (b .blanks) e) h)
+
+  pub tie-cases : winsTie a b ≡ true → Wins a b
+  unfolding winsTie
+  tie-cases h =
+      let same = eqb (a .blanks) (b .blanks) in
+      let more = givesMore (a .quantities) (b .quantities) in
+      ⊎-elim
+      (λ k. inl (ltb-true (a .blanks) (b .blanks) k))
+      (λ k. inr (eqb-true (a .blanks) (b .blanks) (both-left same more k), both-right same more k))
+      (one-holds (ltb (a .blanks) (b .blanks)) (same && more) h)
+
+wins-trans : (a b c : Priced) → Wins a b → Wins b c → Wins a c
+wins-trans a b c (inl p) (inl q) = inl (omega arith)
+wins-trans a b c (inl p) (inr q) = inl (omega (arith, q .0))
+wins-trans a b c (inr p) (inl q) = inl (omega (arith, p .0))
+wins-trans a b c (inr p) (inr q) = inr (p .0 ∙ q .0, more-trans (a .quantities) (b .quantities) (c .quantities) (p .1) (q .1))
+
+wins-irrefl : (a : Priced) → Wins a a → ⊥
+wins-irrefl a (inl p) = omega arith
+wins-irrefl a (inr p) = more-irrefl (a .quantities) (p .1)
+
+-- one wins, or they agree in blanks and quantities
+wins-or : (a b : Priced) → Wins a b ⊎ (((a .blanks ≡ b .blanks) × (a .quantities ≡ b .quantities)) ⊎ Wins b a)
+wins-or a b = go (order (a .blanks) (b .blanks)) (more-or (a .quantities) (b .quantities))
+  where
+    go : (a .blanks < b .blanks) ⊎ ((a .blanks ≡ b .blanks) ⊎ (b .blanks < a .blanks))
+        → More (a .quantities) (b .quantities) ⊎ ((a .quantities ≡ b .quantities) ⊎ More (b .quantities) (a .quantities))
+        → Wins a b ⊎ (((a .blanks ≡ b .blanks) × (a .quantities ≡ b .quantities)) ⊎ Wins b a)
+    go (inl h) rest = inl (inl h)
+    go (inr (inr h)) rest = inr (inr (inl h))
+    go (inr (inl h)) (inl k) = inl (inr (h, k))
+    go (inr (inl h)) (inr (inl k)) = inr (inl (h, k))
+    go (inr (inl h)) (inr (inr k)) = inr (inr (inr (sym h, k)))
+
 -- ---- better
 
 module _ (a b : Priced) where
@@ -102,46 +147,45 @@ module _ (a b : Priced) where
   unfolding better
   better-cost h = left-holds _ _ h
 
-  pub better-tie : a .cost ≡ b .cost → givesMore (a .quantities) (b .quantities) ≡ true → better a b ≡ true
+  pub better-tie : a .cost ≡ b .cost → Wins a b → better a b ≡ true
   unfolding better
   better-tie e h =
       let less = ltZ (a .cost) (b .cost) in
       let most = leZ (a .cost) (b .cost) in
-      let more = givesMore (a .quantities) (b .quantities) in
-      right-holds less (most && more) (both-hold most more (at-most-same (a .cost) (b .cost) e) h)
+      right-holds less (most && winsTie a b) (both-hold most (winsTie a b) (at-most-same (a .cost) (b .cost) e) (tie-when a b h))
 
-  pub better-cases : better a b ≡ true → (ltZ (a .cost) (b .cost) ≡ true) ⊎ ((a .cost ≡ b .cost) × (givesMore (a .quantities) (b .quantities) ≡ true))
+  pub better-cases : better a b ≡ true → (ltZ (a .cost) (b .cost) ≡ true) ⊎ ((a .cost ≡ b .cost) × Wins a b)
   unfolding better
   better-cases h =
       let less = ltZ (a .cost) (b .cost) in
       let most = leZ (a .cost) (b .cost) in
-      let more = givesMore (a .quantities) (b .quantities) in
+      let wins = winsTie a b in
       ⊎-elim
       (λ k. inl k)
-      (λ k. ⊎-elim (λ l. inl l) (λ l. inr (l, both-right most more k)) (at-most-cases (a .cost) (b .cost) (both-left most more k)))
-      (one-holds less (most && more) h)
+      (λ k. ⊎-elim (λ l. inl l) (λ l. inr (l, tie-cases a b (both-right most wins k))) (at-most-cases (a .cost) (b .cost) (both-left most wins k)))
+      (one-holds less (most && wins) h)
 
 pub better-trans : (a b c : Priced) → better a b ≡ true → better b c ≡ true → better a c ≡ true
 better-trans a b c h k = go (better-cases a b h) (better-cases b c k)
   where
-    go : (ltZ (a .cost) (b .cost) ≡ true) ⊎ ((a .cost ≡ b .cost) × More (a .quantities) (b .quantities))
-        → (ltZ (b .cost) (c .cost) ≡ true) ⊎ ((b .cost ≡ c .cost) × More (b .quantities) (c .quantities)) → better a c ≡ true
+    go : (ltZ (a .cost) (b .cost) ≡ true) ⊎ ((a .cost ≡ b .cost) × Wins a b)
+        → (ltZ (b .cost) (c .cost) ≡ true) ⊎ ((b .cost ≡ c .cost) × Wins b c) → better a c ≡ true
     go (inl p) (inl q) = better-cost a c (less-trans (a .cost) (b .cost) (c .cost) p q)
     go (inl p) (inr q) = better-cost a c (rw (q .0) at p)
     go (inr p) (inl q) = better-cost a c (rw (p .0) q)
-    go (inr p) (inr q) = better-tie a c (p .0 ∙ q .0) (more-trans (a .quantities) (b .quantities) (c .quantities) (p .1) (q .1))
+    go (inr p) (inr q) = better-tie a c (p .0 ∙ q .0) (wins-trans a b c (p .1) (q .1))
 
 pub better-irrefl : (a : Priced) → better a a ≡ true → ⊥
-better-irrefl a h = ⊎-elim (λ k. less-irrefl (a .cost) k) (λ k. more-irrefl (a .quantities) (k .1)) (better-cases a a h)
+better-irrefl a h = ⊎-elim (λ k. less-irrefl (a .cost) k) (λ k. wins-irrefl a (k .1)) (better-cases a a h)
 
 pub better-or : (a b : Priced) → (better a b ≡ true) ⊎ ((a ≡ b) ⊎ (better b a ≡ true))
-better-or a b = go (less-or (a .cost) (b .cost)) (more-or (a .quantities) (b .quantities))
+better-or a b = go (less-or (a .cost) (b .cost)) (wins-or a b)
   where
     go : (ltZ (a .cost) (b .cost) ≡ true) ⊎ ((a .cost ≡ b .cost) ⊎ (ltZ (b .cost) (a .cost) ≡ true))
-        → More (a .quantities) (b .quantities) ⊎ ((a .quantities ≡ b .quantities) ⊎ More (b .quantities) (a .quantities))
+        → Wins a b ⊎ (((a .blanks ≡ b .blanks) × (a .quantities ≡ b .quantities)) ⊎ Wins b a)
         → (better a b ≡ true) ⊎ ((a ≡ b) ⊎ (better b a ≡ true))
     go (inl p) q = inl (better-cost a b p)
     go (inr (inr p)) q = inr (inr (better-cost b a p))
     go (inr (inl p)) (inl q) = inl (better-tie a b p q)
-    go (inr (inl p)) (inr (inl q)) = inr (inl (λ i. record { cost = p i; quantities = q i }))
+    go (inr (inl p)) (inr (inl q)) = inr (inl (λ i. record { cost = p i; blanks = q .0 i; quantities = q .1 i }))
     go (inr (inl p)) (inr (inr q)) = inr (inr (better-tie b a (sym p) q))

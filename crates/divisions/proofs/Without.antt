@@ -16,7 +16,7 @@ use Rattle.supply.specs.Supply.{offers, priceAt}
 use Rattle.supply.specs.Allocation.{bought, costOf}
 use Rattle.supply.specs.Meets.{meets}
 use Rattle.divisions.specs.Division.{Allocation}
-use Rattle.divisions.specs.Award.{Priced, givesMore, better, awardOf}
+use Rattle.divisions.specs.Award.{Priced, givesMore, winsTie, better, awardOf}
 use Rattle.divisions.proofs.IsBest.{IsBest, best-unique}
 use Rattle.divisions.proofs.Award.{PricedDivision, award-best}
 
@@ -93,7 +93,7 @@ module _ (order : Order) (supplies : List (List Segment)) (nothing : All SellsNo
 
   -- with nothing for bidder i, at the same cost
   abbrev back : Priced → Priced
-  back d = record { cost = d .cost; quantities = withNothing i (d .quantities) }
+  back d = record { cost = d .cost; blanks = d .blanks; quantities = withNothing i (d .quantities) }
 
   back-division : (d : Priced) → PricedDivision order others d → PricedDivision order supplies (back d)
   back-division d p =
@@ -104,6 +104,7 @@ module _ (order : Order) (supplies : List (List Segment)) (nothing : All SellsNo
           sum = ap (meets order) (with-total i (d .quantities)) ∙ p .division .sum;
         };
         cost = p .cost ∙ sym (with-cost i supplies (d .quantities) nothing bidder a);
+        blanks = p .blanks ∙ sym (with-total i (d .quantities));
       }
 
   module _ (award : Priced) (is-award : awardOf order supplies ≡ some award) (sells-nothing : getD (award .quantities) i 0 ≡ 0) where
@@ -111,10 +112,10 @@ module _ (order : Order) (supplies : List (List Segment)) (nothing : All SellsNo
     best = subst (IsBest (PricedDivision order supplies)) is-award (award-best order supplies)
 
     abbrev left : Priced
-    left = record { cost = award .cost; quantities = removed i (award .quantities) }
+    left = record { cost = award .cost; blanks = award .blanks; quantities = removed i (award .quantities) }
 
     same : back left ≡ award
-    same = λ j. record { cost = award .cost; quantities = with-without i supplies (award .quantities) bidder (best .0 .division .allocation) sells-nothing j }
+    same = λ j. record { cost = award .cost; blanks = award .blanks; quantities = with-without i supplies (award .quantities) bidder (best .0 .division .allocation) sells-nothing j }
 
     left-allocation : Allocation others (left .quantities)
     left-allocation = without-allocation i supplies (award .quantities) (best .0 .division .allocation)
@@ -128,10 +129,11 @@ module _ (order : Order) (supplies : List (List Segment)) (nothing : All SellsNo
             sum = ap (meets order) (sym (with-total i (left .quantities)) ∙ ap bought sold) ∙ best .0 .division .sum;
           };
           cost = best .0 .cost ∙ ap (costOf supplies) (sym sold) ∙ with-cost i supplies (left .quantities) nothing bidder left-allocation;
+          blanks = best .0 .blanks ∙ ap bought (sym sold) ∙ with-total i (left .quantities);
         }
 
     left-best : (d : Priced) → PricedDivision order others d → (d ≡ left) ⊎ (better left d ≡ true)
-    unfolding better
+    unfolding better winsTie
     left-best d p =
         ⊎-elim
         (λ e. inl (sym (again d p) ∙ ap forth e))
@@ -139,10 +141,10 @@ module _ (order : Order) (supplies : List (List Segment)) (nothing : All SellsNo
         (best .1 (back d) (back-division d p))
       where
         forth : Priced → Priced
-        forth x = record { cost = x .cost; quantities = removed i (x .quantities) }
+        forth x = record { cost = x .cost; blanks = x .blanks; quantities = removed i (x .quantities) }
 
         again : (d : Priced) → PricedDivision order others d → forth (back d) ≡ d
-        again d p = λ j. record { cost = d .cost; quantities = without-with i supplies (d .quantities) bidder (p .division .allocation) j }
+        again d p = λ j. record { cost = d .cost; blanks = d .blanks; quantities = without-with i supplies (d .quantities) bidder (p .division .allocation) j }
 
     pub same-award : awardOf order others ≡ some left
     same-award = best-unique (PricedDivision order others) (awardOf order others) (some left) (award-best order others) (left-division, left-best)

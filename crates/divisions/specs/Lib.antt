@@ -3,3 +3,4 @@ pub mod Listing
 pub mod Award
 pub mod IsAward
 pub mod Stored
+pub mod Before

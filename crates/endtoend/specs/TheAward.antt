@@ -31,7 +31,8 @@ pub record TheAward (table : TableEntries) (b : BookEntries) (a : Award) : Type 
   -- what all bidders sell
   pub bought : a .bought .0 ≡ bought (awarded a .quantities)
   pub count : a .count ≡ b .count
-  -- one of the divisions; every other costs more, or costs the same and gives less to the first bidder at whom the two differ
+  -- one of the divisions; every other costs more; or costs the same and has more blanks; or as many, and gives less to the first bidder at
+  -- whom the two differ
   pub best : IsAwardOf b (awarded a)
   -- at most one bidder stands strictly inside its segment
   pub one-inside : insideCount (suppliesOf (b .bids)) (awarded a .quantities) ≤ 1

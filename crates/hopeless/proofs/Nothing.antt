@@ -23,7 +23,7 @@ use Rattle.supply.specs.Sound.{SoundSegment}
 use Rattle.supply.proofs.Sound.{SoundSupply}
 use Rattle.supply.proofs.Accepted.{sound-supplies}
 use Rattle.divisions.specs.Award.{Priced, givesMore, better}
-use Rattle.divisions.proofs.Order.{better-cost, better-tie}
+use Rattle.divisions.proofs.Order.{Wins, better-cost, better-tie}
 use Rattle.divisions.proofs.Signed as Signed
 use Rattle.divisions.proofs.IsBest.{NotBetter}
 use Rattle.choices.specs.Choice.{placed, endsInOrder}
@@ -44,7 +44,7 @@ use Rattle.charges.specs.Charge.{million, charges}
 use Rattle.charges.specs.Records.{SumsOf}
 use Rattle.charges.proofs.Bound.{charges-below}
 use Rattle.completions.specs.Classes.{classAt, classCount, Admits, Covers}
-use Rattle.hopeless.specs.Hopeless.{GivesMore, Above, Closed, empty, passed, short, dearFirst, dearSecond, NothingBetter}
+use Rattle.hopeless.specs.Hopeless.{WinsTies, Above, Closed, empty, passed, short, dearFirst, dearSecond, NothingBetter}
 
 -- A cost against a sum of prices.
 
@@ -58,7 +58,7 @@ no-dearer-than (negsuc k) m h = inl refl
 
 -- A choice c for the first of n bidders, the bids of the others, and the best so far.
 module _ (order : Order) (n : ℕ) (prices : Prices) (c : List Segment) (sound : All SoundSegment c) (bids : List BidEntries) (accepted : All AcceptedBid bids)
-    (all : length c + length bids ≡ n) (best : MaybeDivision) (ties : Bool) (wins : ties ≡ true → GivesMore c best) where
+    (all : length c + length bids ≡ n) (best : MaybeDivision) (ties : Bool) (wins : ties ≡ true → WinsTies order c best) where
   abbrev supplies : List (List Segment)
   supplies = suppliesOf bids
 
@@ -92,16 +92,23 @@ module _ (order : Order) (n : ℕ) (prices : Prices) (c : List Segment) (sound :
           charges-below order l e ys (chosen-each supplies e ys sound-left (p .chosen)) (chosen-box supplies e ys (p .chosen)) (omega (arith, p .not-over)),
         )
 
-    loses : natAbs (best .cost .0) < price → NotBetter d kept
-    loses h = inr (subst (λ (x : Priced). better kept x ≡ true) (sym (p .is)) (better-cost kept (together c (p .extras) e ys) (cheaper-than (best .cost .0) price h)))
+    abbrev whole : Priced
+    whole = together c (p .extras) e ys
 
-    ties-lost : natAbs (best .cost .0) ≤ price → GivesMore c best → NotBetter d kept
-    ties-lost h m =
-        let whole = together c (p .extras) e ys in
+    loses : natAbs (best .cost .0) < price → NotBetter d kept
+    loses h = inr (subst (λ (x : Priced). better kept x ≡ true) (sym (p .is)) (better-cost kept whole (cheaper-than (best .cost .0) price h)))
+
+    -- it has at least as many blanks as the best so far
+    no-fewer : WinsTies order c best → kept .blanks ≤ whole .blanks
+    no-fewer w = omega (arith, w .few, p .enough, placed-bought c (p .extras) (p .box))
+
+    ties-lost : natAbs (best .cost .0) ≤ price → WinsTies order c best → NotBetter d kept
+    ties-lost h w =
         let held : take (length c) (kept .quantities) ≡ take (length c) (blanksIn (best .quantities)) = take-take (length c) n (blanksIn (best .quantities)) (omega (arith, all)) in
-        let more = behind c (p .extras) (placed e ys) (kept .quantities) sound (p .box) (subst (λ (qs : List ℕ). givesMore qs (endsInOrder c) ≡ true) (sym held) m) in
+        let more = behind c (p .extras) (placed e ys) (kept .quantities) sound (p .box) (subst (λ (qs : List ℕ). givesMore qs (endsInOrder c) ≡ true) (sym held) (w .more)) in
+        let won : Wins kept whole = ⊎-elim (λ k. inl k) (⊎-elim (λ k. inr (k, more)) (λ k. absurd (omega (arith, no-fewer w)))) (Signed.order (kept .blanks) (whole .blanks)) in
         inr (subst (λ (x : Priced). better kept x ≡ true) (sym (p .is))
-        (⊎-elim (λ k. better-cost kept whole k) (λ k. better-tie kept whole k more) (no-dearer-than (best .cost .0) price h)))
+        (⊎-elim (λ k. better-cost kept whole k) (λ k. better-tie kept whole k won) (no-dearer-than (best .cost .0) price h)))
 
     too-dear : (l charged : ℕ) → charged ≤ charges order l c + charges order l e → Above order n l charged (natAbs (best .cost .0)) ties → NotBetter d kept
     too-dear l charged h (inl a) = loses (omega (arith, bound l))

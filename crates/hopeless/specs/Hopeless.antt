@@ -1,5 +1,5 @@
 -- For the contract of `hopeless`: in a part of the search, a choice with all ways to complete it, there is nothing better than the best so far.
-use Prim.Native.Nat.{ℕ, _+_, _*_, _^_, _≤_, _<_}
+use Prim.Native.Nat.{ℕ, _+_, _*_, _^_, _≤_, _<_, max}
 use mathlib.Core.Bool.{Bool, true}
 use mathlib.Core.List.{List}
 use mathlib.Core.Logic.{_⊎_}
@@ -15,7 +15,7 @@ use Rattle.supply.specs.Supply.{suppliesOf}
 use Rattle.supply.specs.Meets.{mostOf}
 use Rattle.supply.specs.Sound.{SoundSegment}
 use Rattle.divisions.specs.Award.{givesMore}
-use Rattle.choices.specs.Choice.{endsInOrder}
+use Rattle.choices.specs.Choice.{starts, endsInOrder}
 use Rattle.choices.specs.Search.{search}
 use Rattle.comparison.specs.declared.MaybeDivision.{MaybeDivision}
 use Rattle.comparison.specs.Records.{blanksIn, found}
@@ -25,9 +25,11 @@ use Rattle.charges.specs.Charge.{million, highest}
 use Rattle.charges.specs.Records.{Capped, SumsOf, UpTo}
 use Rattle.completions.specs.Classes.{Covers, Graded}
 
--- the best so far gives more than the ends of a choice to the first of its bidders at whom they differ: it wins every tie against it
-abbrev pub GivesMore : List Segment → MaybeDivision → Type 0
-GivesMore c best = givesMore (take (length c) (blanksIn (best .quantities))) (endsInOrder c) ≡ true
+-- The best so far wins every tie against a choice: it has no more blanks than any division of it, which gives each bidder its start and
+-- meets the demand; and it gives more than the ends of the choice to the first of its bidders at whom they differ.
+pub record WinsTies (order : Order) (c : List Segment) (best : MaybeDivision) : Type 0 where
+  pub few : best .bought .0 ≤ max (order .demand .0) (starts c)
+  pub more : givesMore (take (length c) (blanksIn (best .quantities))) (endsInOrder c) ≡ true
 
 -- by a price l of a blank, n bidders with these charges cost more than so many cents; or as many, where that is enough
 abbrev pub Above : Order → (n l charged cents : ℕ) → Bool → Type 0
@@ -73,6 +75,6 @@ pub record Testable (n : ℕ) (prices : Prices) (table : List ℕ) (at : ℕ) (s
 
 -- the search with a choice c that has these sums, and with bidders whose ways to complete it the table covers, leaves the best so far as it is
 pub record NothingBetter (order : Order) (n : ℕ) (prices : Prices) (table : List ℕ) (at : ℕ) (sums : Sums) (ties : Bool) (best : MaybeDivision) : Type 0 where
-  pub as-it-is : (c : List Segment) → All SoundSegment c → length c ≡ at → SumsOf order prices c sums → (ties ≡ true → GivesMore c best)
+  pub as-it-is : (c : List Segment) → All SoundSegment c → length c ≡ at → SumsOf order prices c sums → (ties ≡ true → WinsTies order c best)
       → (bids : List BidEntries) → All AcceptedBid bids → at + length bids ≡ n → Covers order prices table at (suppliesOf bids)
       → search order (suppliesOf bids) c (found n best) ≡ found n best

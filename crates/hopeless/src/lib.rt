@@ -73,8 +73,8 @@ fn closed(
 }
 
 // Whether the search can go on with a choice for the first `at` of n bidders only to leave the best so far as it is: with each class of
-// ways to complete it there is nothing better. `sums` are those of the choice. With `ties`, the best so far gives more than the ends of
-// the choice to the first bidder at whom they differ, and so is better than what only costs as much. It is pub for the search.
+// ways to complete it there is nothing better. `sums` are those of the choice. With `ties`, the best so far wins every
+// tie against the choice, and so is better than what only costs as much. It is pub for the search.
 pub fn hopeless(
     table: &[u64; 1152],
     at: usize,

@@ -140,7 +140,7 @@ module _ {c : Choice} {all left : ℕ} {quantities : List Blanks} {total : ℤ} 
     all-given : take (c .count) (blanksIn quantities) ≡ reverse (givenFrom all (chosen c))
     all-given = rw none-left at (rw last at (filling .given))
 
-    pub filling-all : (order : Order) → all ≡ order .demand .0 - starts (chosen c)
-        → _≡_ {A = Priced} (record { cost = total; quantities = take (c .count) (blanksIn quantities) }) (filled order (chosen c))
+    pub filling-all : (order : Order) (low blanks : ℕ) → low ≡ starts (chosen c) → all ≡ order .demand .0 - low → blanks ≡ low + all
+        → _≡_ {A = Priced} (record { cost = total; blanks = blanks; quantities = take (c .count) (blanksIn quantities) }) (filled order (chosen c))
     unfolding filled
-    filling-all order e = rw (all-cost, all-given, e)
+    filling-all order low blanks carried e b = rw (all-cost, all-given, b, e, carried)

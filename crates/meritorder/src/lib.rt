@@ -1,7 +1,7 @@
 // A choice of a segment for each bidder: whether it fits the order, and the cheapest quantities within it.
 ghost use mathlib.Core.Path.{_≡_};
 ghost use mathlib.Core.Bool.{true};
-ghost use Prim.Native.Nat.{_+_};
+ghost use Prim.Native.Nat.{_+_, _-_};
 ghost use lib.Dec.{leb};
 ghost use Rattle.choices.specs.Choice.{fits, cheaper, extra, filled};
 ghost use Rattle.choicerecord.specs.Records.{segmentAt, firstSegments, chosen, Sound};
@@ -74,6 +74,16 @@ fn extra(c: Choice, i: usize, left: Blanks) -> Blanks
     Blanks(over)
 }
 
+// What the demand leaves over the starts: nothing where these pass it.
+fn left_over(order: Order, starts: Blanks) -> Blanks
+    ensures { λ r. ⌜ r .0 ≡ order .demand .0 - starts .0 ⌝ }
+{
+    if order.demand.0 <= starts.0 {
+        return Blanks(0);
+    }
+    Blanks(order.demand.0 - starts.0)
+}
+
 // The cheapest quantities within a choice that fits: from the last bidder to the first, each gets its
 // start and its extra of what is left.
 pub fn fill(c: Choice, order: Order) -> MaybeDivision
@@ -81,7 +91,9 @@ pub fn fill(c: Choice, order: Order) -> MaybeDivision
     ensures { λ r. ⌜ r .found ≡ true ⌝ }
     ensures { λ r. ⌜ divisionIn (c .count) r ≡ filled order (chosen c) ⌝ }
 {
-    let mut left = Blanks(order.demand.0 - c.starts.0);
+    let starts = c.starts;
+    let mut left = left_over(order, starts);
+    let bought = Blanks(starts.0 + left.0);
     let mut quantities = [Blanks(0); 8];
     let mut cost = Cents(0);
     let mut i = c.count;
@@ -100,6 +112,7 @@ pub fn fill(c: Choice, order: Order) -> MaybeDivision
     MaybeDivision {
         found: true,
         cost,
+        bought,
         quantities,
     }
 }

@@ -27,7 +27,7 @@ use Rattle.charges.specs.declared.Sums.{Sums}
 use Rattle.charges.specs.Records.{chargesIn, Capped, ChargesOf, SumsOf, UpTo}
 use Rattle.charges.proofs.Sizes.{sums-up-to}
 use Rattle.completions.specs.Classes.{Covers, Surveyed}
-use Rattle.hopeless.specs.Hopeless.{GivesMore, NothingBetter}
+use Rattle.hopeless.specs.Hopeless.{WinsTies, NothingBetter}
 use Rattle.search.specs.Searchable.{Searchable, sumsOf}
 
 -- by what a choice carries and its charges it is judged as by sums added up afresh
@@ -49,7 +49,7 @@ module _ (book : Book) (prices : Prices) (table : List ℕ) (searchable : Search
   bids = bookEntries book .bids
 
   pub cut : (at : ℕ) → at ≤ book .count → (c : List Segment) → All SoundSegment c → length c ≡ at
-      → (sums : Sums) → SumsOf (book .order) prices c sums → (ties : Bool) (best : MaybeDivision) → (ties ≡ true → GivesMore c best)
+      → (sums : Sums) → SumsOf (book .order) prices c sums → (ties : Bool) (best : MaybeDivision) → (ties ≡ true → WinsTies (book .order) c best)
       → NothingBetter (book .order) (book .count) prices table at sums ties best
       → found (book .count) best ≡ search (book .order) (drop at (suppliesOf bids)) c (found (book .count) best)
   cut at within c sound size sums s ties best wins nothing =

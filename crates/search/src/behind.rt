@@ -1,10 +1,13 @@
 // Whether a division wins every tie against a choice.
 ghost use mathlib.Core.Path.{_≡_};
+ghost use mathlib.Core.Bool.{true};
+ghost use Prim.Native.Nat.{_≤_, max};
 ghost use lib.ListN.{take};
 ghost use Rattle.divisions.specs.Award.{givesMore};
-ghost use Rattle.choices.specs.Choice.{endsInOrder};
+ghost use Rattle.choices.specs.Choice.{starts, endsInOrder};
 ghost use Rattle.choicerecord.specs.Records.{chosen, Sound};
 ghost use Rattle.comparison.specs.Records.{blanksIn};
+use book::Order;
 use choicerecord::Choice;
 use comparison::MaybeDivision;
 use money::Blanks;
@@ -24,8 +27,20 @@ fn ends(c: Choice) -> [Blanks; 8]
     all
 }
 
+// Whether a division has no more blanks than any division of a choice: each of these gives the starts, and meets the
+// demand. It is pub, as `behind` is, for the search's test of ties.
+pub fn no_more_blanks(order: Order, c: Choice, best: MaybeDivision) -> bool
+    requires { ⌜ Sound c ⌝ }
+    ensures { λ r. ⌜ (r ≡ true → best .bought .0 ≤ max (order .demand .0) (starts (chosen c))) ⌝ }
+{
+    if best.bought.0 <= order.demand.0 {
+        return true;
+    }
+    best.bought.0 <= c.starts.0
+}
+
 // Whether a division gives more than the ends of a choice to the first of its bidders at whom they
-// differ: then it gives more than every division of the choice. It is pub for the search's test of ties.
+// differ: then it gives more than every division of the choice.
 pub fn behind(c: Choice, best: MaybeDivision) -> bool
     requires { ⌜ Sound c ⌝ }
     ensures { λ r. ⌜ r ≡ givesMore (take (c .count) (blanksIn (best .quantities))) (endsInOrder (chosen c)) ⌝ }

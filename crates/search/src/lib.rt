@@ -9,7 +9,7 @@ ghost use Rattle.divisions.specs.Award.{awardOf};
 ghost use Rattle.choices.specs.Search.{leaf, search};
 ghost use Rattle.choicerecord.specs.Records.{chosen, Sound};
 ghost use Rattle.comparison.specs.Records.{found};
-ghost use Rattle.hopeless.specs.Hopeless.{GivesMore, NothingBetter};
+ghost use Rattle.hopeless.specs.Hopeless.{WinsTies, NothingBetter};
 ghost use Rattle.search.specs.Searchable.{Searchable, Testing, sumsOf, Searching};
 
 mod behind;
@@ -49,9 +49,12 @@ fn lost(
     best: MaybeDivision,
 ) -> bool
     requires { ⌜ Testing order n prices (now table) c sums ⌝ }
-    ensures { λ r. ⌜ (r ≡ true → GivesMore (chosen c) best) ⌝ }
+    ensures { λ r. ⌜ (r ≡ true → WinsTies order (chosen c) best) ⌝ }
     ensures { λ r. ⌜ (r ≡ true → NothingBetter order n prices (now (table .entry)) (c .count) sums true best) ⌝ }
 {
+    if !behind::no_more_blanks(order, c, best) {
+        return false;
+    }
     if !behind::behind(c, best) {
         return false;
     }
@@ -120,6 +123,7 @@ fn no_division() -> MaybeDivision
     MaybeDivision {
         found: false,
         cost: Cents(0),
+        bought: Blanks(0),
         quantities: [Blanks(0); 8],
     }
 }

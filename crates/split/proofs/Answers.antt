@@ -1,6 +1,5 @@
 -- What the answer of a split says. Assumes nothing.
-use Prim.Native.Nat.{ℕ}
-use native.Mathlib.Omega.{arith}
+use Prim.Native.Nat.{ℕ, _+_, _≤_}
 use mathlib.Core.Bool.{true}
 use mathlib.Core.List.{List}
 use mathlib.Core.Logic.{_↔_}
@@ -28,9 +27,9 @@ module _ (b : BookEntries) (rs : List ℕ) (accepted : splitVerdict b rs ≡ Acc
   unfolding splitOf
   answered = rw accepted
 
-  -- yes if and only if the quantities add up to the demand
-  pub yes-iff : (splitOf b rs .meets ≡ true) ↔ (bought rs ≡ b .order .demand .0)
+  -- yes if and only if the quantities add up to at least the demand and at most demand plus allowance
+  pub yes-iff : (splitOf b rs .meets ≡ true) ↔ ((b .order .demand .0 ≤ bought rs) × (bought rs ≤ b .order .demand .0 + b .order .allowance .0))
   yes-iff = (
-    λ e. let e′ = sym answered ∙ e in omega (arith, meets-low (b .order) (bought rs) e′, meets-high (b .order) (bought rs) e′),
-    λ e. answered ∙ meets-when (b .order) (bought rs) (omega arith) (omega arith),
+    λ e. let yes = sym answered ∙ e in (meets-low (b .order) (bought rs) yes, meets-high (b .order) (bought rs) yes),
+    λ h. answered ∙ meets-when (b .order) (bought rs) (h .0) (h .1),
   )

@@ -6,11 +6,15 @@ ghost use Rattle.supply.specs.Meets.{mostOf, meets};
 use book::Order;
 use money::Blanks;
 
-// Whether so many are more than the order takes.
+// Whether so many are more than the order takes. Demand and allowance are not added up, so that nothing wraps whatever they are.
 pub fn passes(order: Order, blanks: Blanks) -> bool
     ensures { λ r. ⌜ r ≡ ltb (mostOf order) (blanks .0) ⌝ }
 {
-    order.demand.0 < blanks.0
+    if blanks.0 <= order.demand.0 {
+        return false;
+    }
+    let over = blanks.0 - order.demand.0;
+    order.allowance.0 < over
 }
 
 // Whether it takes so many.
@@ -28,7 +32,8 @@ pub fn capped(order: Order, blanks: Blanks) -> Blanks
     ensures { λ r. ⌜ r .0 ≡ min (blanks .0) (mostOf order) ⌝ }
 {
     if passes(order, blanks) {
-        return Blanks(order.demand.0);
+        let most = order.demand.0 + order.allowance.0;
+        return Blanks(most);
     }
     blanks
 }

@@ -13,8 +13,13 @@ seg start end unit fixed = record { start = record { 0 = start }; end = record {
 abbrev pub bid : ℕ → List Segment → BidEntries
 bid bidder segments = record { bidder = bidder; carriage = 0; count = length segments; segments = segments }
 
+abbrev pub asked : ℕ → ℕ → List BidEntries → BookEntries
+asked blanks over bids =
+    record { order = record { demand = record { 0 = blanks }; allowance = record { 0 = over } }; count = length bids; bids = bids }
+
+-- without allowance
 abbrev pub demand : ℕ → List BidEntries → BookEntries
-demand blanks bids = record { order = record { demand = record { 0 = blanks } }; count = length bids; bids = bids }
+demand blanks bids = asked blanks 0 bids
 
 -- the bids of document 01's book
 abbrev pub theBids : ℤ → List BidEntries
@@ -41,4 +46,8 @@ books =
     ∷ demand 119 (bid 12 (seg 120 120 370 (pos 0) ∷ []) ∷ [])
     ∷ demand 120 (theBids (negℤ (pos 21350)))
     ∷ demand 120 (theBids (negℤ (pos 21351)))
+    ∷ asked 100 10 (bid 1 (seg 1 100 50 (pos 0) ∷ []) ∷ bid 2 (seg 110 110 40 (pos 0) ∷ []) ∷ [])
+    ∷ asked 100 9 (bid 1 (seg 1 100 50 (pos 0) ∷ []) ∷ bid 2 (seg 110 110 40 (pos 0) ∷ []) ∷ [])
+    ∷ asked 5 3 (bid 1 (seg 1 9 0 (pos 7) ∷ []) ∷ [])
+    ∷ asked 5 3 (bid 1 (seg 8 8 0 (pos 30) ∷ []) ∷ bid 2 (seg 6 6 0 (pos 30) ∷ []) ∷ [])
     ∷ []

@@ -3,12 +3,12 @@ use mathlib.Core.Bool.{true}
 use mathlib.Core.Path.{_≡_, refl}
 use Rattle.lists.specs.Every.{every}
 use Rattle.money.specs.Price.{priceOf}
-use Rattle.book.specs.Rules.{segmentInRange, bidInRange, segmentsRise, startNotNegative, bidVerdict, bidsVerdict, bookVerdict}
+use Rattle.book.specs.Rules.{segmentInRange, bidInRange, segmentsRise, startNotNegative, bidVerdict, bidsVerdict, orderInRange, bookVerdict}
 use Rattle.forms.specs.Digits.{digitsWithin, digits, signedDigits}
 use Rattle.booktext.specs.BookText.{segmentText, bidHead, bidText, bookHead, bookText}
 use Rattle.sampling.specs.Sampling.{printedBands, sampleAbove, sampleOf}
 use Rattle.supply.specs.Supply.{supplyOf, on, priceAt, numberFrom, segmentNumber}
-use Rattle.divisions.specs.Award.{givesMore, better, pick}
+use Rattle.divisions.specs.Award.{givesMore, winsTie, better, pick}
 use Rattle.choices.specs.Choice.{fits, width, filled}
 use Rattle.choices.specs.Search.{each, leaf, search}
 use Rattle.award.specs.Award.{rowOf}
@@ -22,7 +22,7 @@ use Rattle.workedcases.proofs.Fits.{bookFits}
 use Rattle.workedcases.proofs.Test.{passes, allPass}
 
 pub computed : allPass table books ≡ true
-unfolding table books every priceOf segmentInRange bidInRange segmentsRise startNotNegative bidVerdict bidsVerdict bookVerdict supplyOf on priceAt numberFrom segmentNumber
-    printedBands sampleAbove sampleOf givesMore better pick fits width filled each leaf search rowOf bookWithout digitsWithin digits signedDigits segmentText bidHead bidText
+unfolding table books every priceOf segmentInRange bidInRange segmentsRise startNotNegative bidVerdict bidsVerdict orderInRange bookVerdict supplyOf on priceAt numberFrom segmentNumber
+    printedBands sampleAbove sampleOf givesMore winsTie better pick fits width filled each leaf search rowOf bookWithout digitsWithin digits signedDigits segmentText bidHead bidText
     bookHead bookText totalText rowText firstText sheetText refusalText eqBytes bookSmall bookFits passes allPass
 computed = refl

@@ -42,7 +42,7 @@ modelCleared table b (some award) = record {
   verdict = Accepted;
   award = record {
     demand = b .order .demand;
-    bought = b .order .demand;
+    bought = record { 0 = award .blanks };
     total = record { 0 = award .cost };
     count = b .count;
     rows = padded 8 noRow (modelRows table b 0 (b .bids) (award .quantities));
@@ -80,7 +80,7 @@ module _ (table : TableEntries) (b : BookEntries) (bids : All AcceptedBid (b .bi
         verdict = Accepted;
         award = record {
           demand = b .order .demand;
-          bought = b .order .demand;
+          bought = record { 0 = award .blanks };
           total = record { 0 = award .cost };
           count = b .count;
           rows = padded 8 noRow l;

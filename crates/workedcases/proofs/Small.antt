@@ -33,7 +33,7 @@ abbrev bidSmall : BidEntries → Bool
 bidSmall b = hold (bidTests b)
 
 abbrev bookTests : BookEntries → List Bool
-bookTests b = small (b .order .demand .0) ∷ eqb (b .count) (length (b .bids)) ∷ ltb 0 (b .count) ∷ every bidSmall (b .bids) ∷ []
+bookTests b = small (b .order .demand .0) ∷ small (b .order .allowance .0) ∷ eqb (b .count) (length (b .bids)) ∷ ltb 0 (b .count) ∷ every bidSmall (b .bids) ∷ []
 
 unfoldable pub bookSmall : BookEntries → Bool
 bookSmall b = hold (bookTests b)
@@ -63,7 +63,8 @@ book-formed b e =
     let h = each-holds (bookTests b) e in
     record {
       demand = few (b .order .demand .0) (h .0);
-      count = eqb-true (b .count) (length (b .bids)) (h .1 .0);
-      some = ltb-true 0 (b .count) (h .1 .1 .0);
-      bids = all-from _ WellFormedBid bid-formed (b .bids) (all-tested bidSmall (b .bids) (h .1 .1 .1 .0));
+      allowance = few (b .order .allowance .0) (h .1 .0);
+      count = eqb-true (b .count) (length (b .bids)) (h .1 .1 .0);
+      some = ltb-true 0 (b .count) (h .1 .1 .1 .0);
+      bids = all-from _ WellFormedBid bid-formed (b .bids) (all-tested bidSmall (b .bids) (h .1 .1 .1 .1 .0));
     }

@@ -18,10 +18,11 @@ pub record Case : Type 0 where
   pub text : List ℕ
   pub printed : List ℕ
 
--- "the book" of document 01, with carriage 0 (document 02, change 2), the demand changed, and the fixed price of bidder 3's second segment
+-- "the book" of document 01, with carriage 0 and allowance 0 (document 02, changes 2 and 5), the demand changed, and the fixed price of bidder
+-- 3's second segment
 abbrev pub bookWith : String → String → List ℕ
 bookWith demand fixed =
-    ascii "(demand " ++ ascii demand ++ ascii ")\n"
+    ascii "(demand " ++ ascii demand ++ ascii " 0)\n"
     ++ ascii "(bid 3 0 (seg 1 60 400 0) (seg 61 100 350 " ++ ascii fixed ++ ascii "))\n"
     ++ ascii "(bid 8 0 (seg 20 80 380 1000))\n"
     ++ ascii "(bid 12 0 (seg 120 120 370 0))\n"
@@ -88,11 +89,11 @@ table =
     ∷ record { text = theBook "301"; printed = lines ("(refused 9 0)" ∷ []) }
     -- two bidders with the same segment: the first sells all
     ∷ record {
-      text = lines ("(demand 10)" ∷ "(bid 1 0 (seg 1 10 5 0))" ∷ "(bid 2 0 (seg 1 10 5 0))" ∷ []);
+      text = lines ("(demand 10 0)" ∷ "(bid 1 0 (seg 1 10 5 0))" ∷ "(bid 2 0 (seg 1 10 5 0))" ∷ []);
       printed = lines ("(award 10 10 50)" ∷ "(buy 1 1 10 50 3 (without 50))" ∷ "(buy 2 0 0 0 0 (without 50))" ∷ []);
     }
     -- bidder 12 alone
-    ∷ record { text = lines ("(demand 119)" ∷ "(bid 12 0 (seg 120 120 370 0))" ∷ []); printed = lines ("(refused 9 0)" ∷ []) }
+    ∷ record { text = lines ("(demand 119 0)" ∷ "(bid 12 0 (seg 120 120 370 0))" ∷ []); printed = lines ("(refused 9 0)" ∷ []) }
     -- a price of 0 at the start is accepted, one of -1 is not
     ∷ record {
       text = bookWith "120" "-21350";
@@ -104,4 +105,20 @@ table =
           ∷ []);
     }
     ∷ record { text = bookWith "120" "-21351"; printed = lines ("(refused 8 2)" ∷ []) }
+    -- document 02, change 5: a cheaper drum above the demand, by just the allowance and by one more
+    ∷ record {
+      text = lines ("(demand 100 10)" ∷ "(bid 1 0 (seg 1 100 50 0))" ∷ "(bid 2 0 (seg 110 110 40 0))" ∷ []);
+      printed = lines ("(award 100 110 4400)" ∷ "(buy 1 0 0 0 0 (without 4400))" ∷ "(buy 2 1 110 4400 20 (without 5000))" ∷ []);
+    }
+    ∷ record {
+      text = lines ("(demand 100 9)" ∷ "(bid 1 0 (seg 1 100 50 0))" ∷ "(bid 2 0 (seg 110 110 40 0))" ∷ []);
+      printed = lines ("(award 100 100 5000)" ∷ "(buy 1 1 100 5000 20 (without none))" ∷ "(buy 2 0 0 0 0 (without 5000))" ∷ []);
+    }
+    -- blanks that cost nothing are not taken beyond the demand
+    ∷ record { text = lines ("(demand 5 3)" ∷ "(bid 1 0 (seg 1 9 0 7))" ∷ []); printed = lines ("(award 5 5 7)" ∷ "(buy 1 1 5 7 2 (without none))" ∷ []) }
+    -- at the same cost the fewer blanks, against book order
+    ∷ record {
+      text = lines ("(demand 5 3)" ∷ "(bid 1 0 (seg 8 8 0 30))" ∷ "(bid 2 0 (seg 6 6 0 30))" ∷ []);
+      printed = lines ("(award 5 6 30)" ∷ "(buy 1 0 0 0 0 (without 30))" ∷ "(buy 2 1 6 30 2 (without 30))" ∷ []);
+    }
     ∷ []

@@ -1,4 +1,4 @@
--- The demand's line and the bids, read one after the other; the bids are added to the record of the line. Assumes nothing.
+-- The line of the demand and the bids, read one after the other; the bids are added to the record of the line. Assumes nothing.
 use mathlib.Core.Path.{ap, _∙_}
 use Rattle.book.specs.declared.Book.{Book}
 use Rattle.booktext.specs.BookForm.{bookOf}

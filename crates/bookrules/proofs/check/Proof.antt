@@ -6,24 +6,24 @@ use borrow.Author.Needs.{needs}
 use borrow.Author.Tests.{lt-ltb, le-leb, lt-leb}
 use lib.Dec.{ltb}
 use Rattle.lists.proofs.Tests.{passed, failed}
-use Rattle.book.specs.Rules.{within, bookVerdict}
+use Rattle.book.specs.Rules.{orderInRange, bookVerdict}
 use Rattle.bookrules.proofs.check.Statement.{statement}
 use Rattle.bookrules.proofs.check.Tie as tie
 
 -- what each test shows
-demand-kept : (c : tie.Else1) → within 1 1000000 (c .before .before .args .book .order .demand .0) ≡ true
-demand-kept c = passed (c .before .within .ensures) (c .if1 .left)
+order-kept : (c : tie.Else1) → orderInRange (c .before .before .before .args .book .order) ≡ true
+order-kept c = passed (c .before .order-in-range .ensures) (c .if1 .left)
 
-some-bid : (c : tie.Else2) → ltb 0 (c .before .before .before .args .book .count) ≡ true
-some-bid c = lt-ltb 0 (c .before .before .before .args .book .count) (omega (arith, c .if2 .left))
+some-bid : (c : tie.Else2) → ltb 0 (c .before .before .before .before .args .book .count) ≡ true
+some-bid c = lt-ltb 0 (c .before .before .before .before .args .book .count) (omega (arith, c .if2 .left))
 
 returns : tie.Need-returns
 unfolding bookVerdict
-returns c = rw (failed (c .before .within .ensures) (c .if1 .taken))
+returns c = rw (failed (c .before .order-in-range .ensures) (c .if1 .taken))
 
 returns-2 : tie.Need-returns-2
 unfolding bookVerdict
-returns-2 c = rw (demand-kept (c .before), c .if2 .taken)
+returns-2 c = rw (order-kept (c .before), c .if2 .taken)
 
 returns-3 : tie.Need-returns-3
 unfolding bookVerdict
@@ -31,7 +31,7 @@ returns-3 c =
     let checked = c .before .before in
     let counted = checked .before in
     let verdict = c .enum-told .given .1 in
-    rw (demand-kept (counted .before), some-bid counted, sym (checked .check-bids .ensures) ∙ verdict) verdict
+    rw (order-kept (counted .before), some-bid counted, sym (checked .check-bids .ensures) ∙ verdict) verdict
 
 returns-4 : tie.Need-returns-4
 unfolding bookVerdict
@@ -40,7 +40,7 @@ returns-4 c =
     let checked = told .before .before in
     let counted = checked .before in
     let accepted = sym (checked .check-bids .ensures) ∙ told .enum-told2 .given .1 in
-    rw (demand-kept (counted .before), some-bid counted, accepted, lt-leb _ _ (c .if3 .taken))
+    rw (order-kept (counted .before), some-bid counted, accepted, lt-leb _ _ (c .if3 .taken))
 
 returns-5 : tie.Need-returns-5
 unfolding bookVerdict
@@ -49,7 +49,7 @@ returns-5 c =
     let checked = told .before .before in
     let counted = checked .before in
     let accepted = sym (checked .check-bids .ensures) ∙ told .enum-told2 .given .1 in
-    rw (demand-kept (counted .before), some-bid counted, accepted, le-leb _ _ (c .if3 .left))
+    rw (order-kept (counted .before), some-bid counted, accepted, le-leb _ _ (c .if3 .left))
 
 pub check-spec : {M : Type 1} → statement M
 check-spec =

@@ -1,4 +1,4 @@
--- The check's verdict decides, as in the definition: 0 beside a refusal, else 17 and what `room_of_bids` gives.
+-- The check's verdict decides, as in the definition: 0 beside a refusal, else 25 and what `room_of_bids` gives.
 use mathlib.Core.Path.{sym, _∙_}
 use borrow.Author.Needs.{needs}
 use Rattle.book.specs.Room.{roomOf}

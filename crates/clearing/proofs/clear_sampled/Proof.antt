@@ -39,10 +39,10 @@ is-award c =
     record { accepted = accepted (b .before); is-award = award-some _ (best .result) (best .ensures) (not-false (best .result .found) (c .if1 .left)) }
 
 rows-requires : tie.Need-rows-requires
-rows-requires c κs = is-award (c .before .before)
+rows-requires c κs = is-award (c .before .before .before)
 
 returns-3 : tie.Need-returns-3
-returns-3 c = clear-award _ _ _ (is-award (c .before .before .before)) _ (c .rows .ensures)
+returns-3 c = clear-award _ _ _ (is-award (c .before .before .before .before)) _ (c .rows .ensures)
 
 pub clear-sampled-spec : {M : Type 1} → statement M
 clear-sampled-spec =

@@ -1,4 +1,4 @@
--- The costs are compared both ways, and where neither is larger the quantities decide.
+-- The costs are compared both ways, and where neither is larger the tie decides.
 use mathlib.Core.Path.{sym, _∙_}
 use borrow.Author.Needs.{needs}
 use Rattle.lists.proofs.Tests.{passed, failed}
@@ -26,12 +26,12 @@ returns-2 c =
 
 returns-3 : tie.Need-returns-3
 returns-3 c =
-    let f = c .before .before .before in
+    let f = c .before in
     let e = f .before .before in
     let a = start (e .before) .args in
     let at-most = passed (e .before .at-most .ensures) (e .if1 .left) in
     let at-least = passed (f .before .at-most2 .ensures) (f .if2 .left) in
-    c .gives-more .ensures ∙ sym (as-cheap (divisionIn (a .n) (a .a)) (divisionIn (a .n) (a .b)) at-most at-least)
+    c .wins-tie .ensures ∙ sym (as-cheap (divisionIn (a .n) (a .a)) (divisionIn (a .n) (a .b)) at-most at-least)
 
 pub better-spec : {M : Type 1} → statement M
 better-spec = tie.close (tie.spec (λ c κs. search needs) returns (λ c κs. search needs) returns-2 (λ c κs. search needs) returns-3)

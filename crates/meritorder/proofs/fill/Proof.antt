@@ -3,24 +3,25 @@ use Prim.Native.Nat.{ℕ, suc, _+_, _-_, _≤_}
 use native.Mathlib.Omega.{arith}
 use mathlib.Core.Path.{_≡_, refl, ap}
 use borrow.Author.Needs.{needs}
+use mir.Syntax.{w64}
+use mir.Val.{Fits}
 use Rattle.book.specs.declared.Segment.{Segment}
 use Rattle.supply.specs.Sound.{SoundSegment}
 use Rattle.supply.proofs.Sound.{price-fits}
-use Rattle.choices.proofs.Placed.{fits-low}
 use Rattle.choicerecord.specs.Records.{segmentAt, firstSegments, chosen}
 use Rattle.meritorder.proofs.Filling.{Filling, extra-left, filling-none, sound-this, within-end, total-fits, filling-next, filling-all}
 use Rattle.meritorder.proofs.fill.Statement.{statement}
 use Rattle.meritorder.proofs.fill.Tie as tie
 
 abbrev Inv-loop : tie.InvT-loop
-Inv-loop c left₀ quantities₀ cost₀ i₀ left quantities cost i = Filling c (left₀ .0) (left .0) quantities (cost .0) i
+Inv-loop c left₀ bought quantities₀ cost₀ i₀ left quantities cost i = Filling c (left₀ .0) (left .0) quantities (cost .0) i
 
 abbrev μ-loop : tie.MeasureT-loop
-μ-loop c left₀ quantities₀ cost₀ i₀ left quantities cost i = i
+μ-loop c left₀ bought quantities₀ cost₀ i₀ left quantities cost i = i
 
 -- Places, seen from later ones: the start from a turn, and the extra of a bidder from its price.
 abbrev start : tie.In-loop Inv-loop μ-loop → tie.Start Inv-loop μ-loop
-start c = c .before .before .before
+start c = c .before .before .before .before .before .before
 
 abbrev with-extra : tie.After-price Inv-loop μ-loop → tie.After-extra Inv-loop μ-loop
 with-extra c = c .before .before .before .before .before .before .before
@@ -43,10 +44,18 @@ at-end c =
     let l = c .before .before in
     within-end (l .before .loop .inv) (l .before .loop .i - 1) (next l) (start l .pre .sound) (c .extra .result .0) (c .extra .ensures)
 
-sub-t15 : tie.Need-sub-t15 Inv-loop μ-loop
-sub-t15 c =
-    let s = c .before in
-    omega (arith, fits-low (s .args .order) (chosen (s .args .t1)) (s .pre .fitting), s .pre .sound .carried .starts)
+-- what is bought is the demand, or the sum of the starts
+demanded : (s : tie.Start Inv-loop μ-loop) → Fits w64 (s .args .order .demand .0)
+demanded s = search needs
+
+started : (s : tie.Start Inv-loop μ-loop) → Fits w64 (s .args .t1 .starts .0)
+started s = search needs
+
+add-t16 : tie.Need-add-t16 Inv-loop μ-loop
+add-t16 c =
+    let l = c .before .before in
+    let s = l .before .before in
+    omega (arith, l .left-over .ensures, demanded s, started s)
 
 loop-holds : tie.Need-loop-holds Inv-loop μ-loop
 loop-holds c = filling-none _ _ _ refl
@@ -56,15 +65,15 @@ extra-requires c κs =
     let l = c .before in
     record { sound = start l .pre .sound; within = omega (arith, next l, l .before .loop .inv .within) }
 
-sub-t23 : tie.Need-sub-t23 Inv-loop μ-loop
-sub-t23 c =
+sub-t24 : tie.Need-sub-t24 Inv-loop μ-loop
+sub-t24 c =
     let x = c .before .before in
     let l = x .before .before in
     let earlier = firstSegments (start l .args .t1) (l .before .loop .i - 1) in
     omega (arith, extra-left (l .before .loop .left .0) (this l) earlier, x .extra .ensures)
 
-add-t23 : tie.Need-add-t23 Inv-loop μ-loop
-add-t23 c =
+add-t24 : tie.Need-add-t24 Inv-loop μ-loop
+add-t24 c =
     let x = c .before .before .before .before in
     omega (arith, at-end x, sound (x .before .before) .end-high)
 
@@ -95,10 +104,9 @@ loop-again c =
 
 returns : tie.Need-returns Inv-loop μ-loop
 returns c =
-    let s = c .before .before .before in
-    let order = s .args .order in
-    let all = ap (λ (low : ℕ). order .demand .0 - low) (s .pre .sound .carried .starts) in
-    (refl, filling-all (c .before .loop .inv) (omega arith) order all)
+    let l = c .before .before .before .before in
+    let s = l .before .before in
+    (refl, filling-all (c .before .loop .inv) (omega arith) (s .args .order) (s .args .t1 .starts .0) _ (s .pre .sound .carried .starts) (l .left-over .ensures) refl)
 
 pub fill-spec : {M : Type 1} → statement M
 fill-spec =
@@ -106,12 +114,13 @@ fill-spec =
     (tie.spec
     Inv-loop
     μ-loop
-    sub-t15
+    (λ c κs. search needs)
+    add-t16
     loop-holds
     (λ c. search needs) (λ c. search needs) (λ c. search needs)
     extra-requires
-    sub-t23
-    add-t23
+    sub-t24
+    add-t24
     (λ c. search needs) (λ c. search needs)
     price-requires
     plus-requires
