@@ -39,7 +39,7 @@ static bool read_book(const char *text, struct book *book)
     int length = 0;
     const char *at;
 
-    sscanf(text, "(demand %" SCNu64 ")\n%n", &book->demand, &length);
+    sscanf(text, "(demand %" SCNu64 " %" SCNu64 ")\n%n", &book->demand, &book->allowance, &length);
     if (length == 0) {
         return false;
     }
@@ -100,7 +100,7 @@ static void put_bid(struct text *text, const struct bid *bid)
 void book_write(const struct book *book, struct text *text)
 {
     text->length = 0;
-    put(text, "(demand %" PRIu64 ")\n", book->demand);
+    put(text, "(demand %" PRIu64 " %" PRIu64 ")\n", book->demand, book->allowance);
     for (size_t i = 0; i < book->count; i++) {
         put_bid(text, &book->bids[i]);
     }

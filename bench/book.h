@@ -27,7 +27,7 @@ struct bid {
 };
 
 struct book {
-    uint64_t demand;
+    uint64_t demand, allowance;
     size_t count;
     struct bid bids[BIDS];
 };
@@ -35,6 +35,7 @@ struct book {
 /* What clearing gives: where the book is not covered, all else is 0. */
 struct clearing {
     bool covered;
+    uint64_t bought;
     int64_t total;
     uint64_t quantities[BIDS];
     bool covered_without[BIDS];
@@ -49,6 +50,12 @@ void book_write(const struct book *book, struct text *text);
 
 /* The book less the bid with this index. */
 void book_without(const struct book *book, size_t at, struct book *left);
+
+/* The most blanks that are taken. */
+static inline uint64_t most_of(const struct book *book)
+{
+    return book->demand + book->allowance;
+}
 
 /* The price of a quantity on a segment. */
 static inline int64_t price(const struct segment *s, uint64_t quantity)

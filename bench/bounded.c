@@ -1,9 +1,10 @@
 /* The product's algorithm in plain C: a search through choices of segments that leaves out parts in which nothing better can be found.
  *
  * Given a price of a blank, a quantity on a segment is charged its own price less that of its blanks. Over a division the charges add up to
- * its total less the price of the demand. So a part of the search can be left out where the charges of the segments chosen so far, with the
- * least charges of the bidders left, are too high for a division that goes before the best so far. There are two prices of a blank, and
- * either can show it. Any prices will do: they only make the search faster. */
+ * its total less the price of what is bought, and so to no more than its total less the price of the demand. So a part of the search can be
+ * left out where the charges of the segments chosen so far, with the least charges of the bidders left, are too high for a division that
+ * goes before the best so far. There are two prices of a blank, and either can show it. Any prices will do: they only make the search
+ * faster. */
 #include "choice.h"
 
 enum { PRICES = 2, CLASSES = 32 };
@@ -35,10 +36,10 @@ static int64_t larger(int64_t a, int64_t b)
     return a < b ? b : a;
 }
 
-/* The most that can be sold on a segment which starts within the demand. */
-static int64_t most_on(const struct segment *s, uint64_t demand)
+/* The most of so many blanks that can be sold on a segment which starts within them. */
+static int64_t most_on(const struct segment *s, uint64_t blanks)
 {
-    return smaller((int64_t)s->end, (int64_t)demand);
+    return smaller((int64_t)s->end, (int64_t)blanks);
 }
 
 static int64_t charge_at(const struct segment *s, int64_t quantity, int64_t blank)
@@ -46,19 +47,20 @@ static int64_t charge_at(const struct segment *s, int64_t quantity, int64_t blan
     return price(s, (uint64_t)quantity) - blank * quantity;
 }
 
-/* The least that a quantity on a segment is charged: it is that of the start or of the end. */
-static int64_t charge(const struct segment *s, uint64_t demand, int64_t blank)
+/* The least that a quantity on a segment, of at most so many blanks, is charged: it is that of the start or of the end. */
+static int64_t charge(const struct segment *s, uint64_t most, int64_t blank)
 {
-    return smaller(charge_at(s, (int64_t)s->start, blank), charge_at(s, most_on(s, demand), blank));
+    return smaller(charge_at(s, (int64_t)s->start, blank), charge_at(s, most_on(s, most), blank));
 }
 
 /* The segment of least charge among those that start within the demand, the latest of equals. */
-static const struct segment *favourite(const struct bid *bid, uint64_t demand, int64_t blank)
+static const struct segment *favourite(const struct book *book, size_t i, int64_t blank)
 {
+    const struct bid *bid = &book->bids[i];
     const struct segment *best = &bid->segments[0];
 
-    for (size_t j = 1; j <= bid->count && bid->segments[j].start <= demand; j++) {
-        if (charge(&bid->segments[j], demand, blank) <= charge(best, demand, blank)) {
+    for (size_t j = 1; j <= bid->count && bid->segments[j].start <= book->demand; j++) {
+        if (charge(&bid->segments[j], most_of(book), blank) <= charge(best, most_of(book), blank)) {
             best = &bid->segments[j];
         }
     }
@@ -71,7 +73,7 @@ static int64_t sold_at(const struct book *book, int64_t blank)
     int64_t sum = 0;
 
     for (size_t i = 0; i < book->count; i++) {
-        const struct segment *s = favourite(&book->bids[i], book->demand, blank);
+        const struct segment *s = favourite(book, i, blank);
 
         sum += (int64_t)s->unit <= blank ? most_on(s, book->demand) : (int64_t)s->start;
     }
@@ -98,7 +100,7 @@ static int64_t meeting_price(const struct book *book)
 static void choose_favourites(struct choice *c, int64_t blank)
 {
     for (size_t i = 0; i < c->book->count; i++) {
-        choice_choose(c, i, favourite(&c->book->bids[i], c->book->demand, blank));
+        choice_choose(c, i, favourite(c->book, i, blank));
     }
 }
 
@@ -168,14 +170,14 @@ static int64_t second_price(const struct choice *c, int64_t first)
 }
 
 /* The sums with one more segment. */
-static struct sums with(const struct sums *sums, const struct segment *s, uint64_t demand, const int64_t *prices)
+static struct sums with(const struct sums *sums, const struct segment *s, uint64_t most, const int64_t *prices)
 {
     struct sums more = *sums;
 
     more.low += (int64_t)s->start;
     more.high += (int64_t)s->end;
     for (size_t k = 0; k < PRICES; k++) {
-        more.charges[k] += charge(s, demand, prices[k]);
+        more.charges[k] += charge(s, most, prices[k]);
     }
     return more;
 }
@@ -194,8 +196,14 @@ static void join(struct sums *class, const struct sums *sums)
     }
 }
 
-/* The classes of the bidders from `at` on, from those of the bidders after it: each with each segment, put together by their starts, which
- * are at most `most` where anything is to be found. */
+/* Which class takes so many blanks at the starts, where those that do not pass the demand are at most `most`. */
+static size_t class_of(int64_t starts, int64_t most)
+{
+    return (size_t)smaller(starts * CLASSES / (most + 1), CLASSES - 1);
+}
+
+/* The classes of the bidders from `at` on, from those of the bidders after it: each with each segment, put together by their starts, less
+ * what passes demand and allowance. */
 static void survey_bid(const struct book *book, size_t at, int64_t most, struct bounds *b)
 {
     const struct bid *bid = &book->bids[at];
@@ -206,10 +214,10 @@ static void survey_bid(const struct book *book, size_t at, int64_t most, struct 
     }
     for (size_t j = 0; j <= bid->count; j++) {
         for (size_t k = 0; k < b->counts[at + 1]; k++) {
-            struct sums sums = with(&b->classes[at + 1][k], &bid->segments[j], book->demand, b->prices);
+            struct sums sums = with(&b->classes[at + 1][k], &bid->segments[j], most_of(book), b->prices);
 
-            if (sums.low <= (int64_t)book->demand) {
-                join(&table[sums.low * CLASSES / (most + 1)], &sums);
+            if (sums.low <= (int64_t)most_of(book)) {
+                join(&table[class_of(sums.low, most)], &sums);
             }
         }
     }
@@ -234,10 +242,13 @@ static void survey(const struct book *book, struct bounds *b)
     }
 }
 
-/* Whether every division with the first n segments chosen comes after the best so far if it has the same total: the first chosen end that
- * is not the best's quantity is below it. */
-static bool behind(const struct choice *c, size_t n)
+/* Whether every division with the first n segments chosen comes after the best so far if it has the same total: it has no fewer blanks, and
+ * the first chosen end that is not the best's quantity is below it. */
+static bool behind(const struct choice *c, size_t n, const struct sums *chosen)
 {
+    if (c->best.bought > c->book->demand && (int64_t)c->best.bought > chosen->low) {
+        return false;
+    }
     for (size_t i = 0; i < n; i++) {
         if (c->chosen[i]->end != c->best.quantities[i]) {
             return c->chosen[i]->end < c->best.quantities[i];
@@ -249,17 +260,17 @@ static bool behind(const struct choice *c, size_t n)
 /* The highest charges of the bidders left with which a division goes before the best so far. */
 static void highest_charges(const struct choice *c, const struct bounds *b, size_t n, const struct sums *chosen, int64_t *highest)
 {
-    int64_t total = c->best.total - (behind(c, n) ? 1 : 0);
+    int64_t total = c->best.total - (behind(c, n, chosen) ? 1 : 0);
 
     for (size_t k = 0; k < PRICES; k++) {
         highest[k] = total - b->prices[k] * (int64_t)c->book->demand - chosen->charges[k];
     }
 }
 
-/* Whether the ways of this class can meet the demand with the segments chosen. */
-static bool reaches(const struct sums *class, const struct sums *chosen, uint64_t demand)
+/* Whether the ways of this class can meet the demand with the segments chosen, and not pass the allowance. */
+static bool reaches(const struct sums *class, const struct sums *chosen, const struct book *book)
 {
-    return chosen->low + class->low <= (int64_t)demand && (int64_t)demand <= chosen->high + class->high;
+    return chosen->low + class->low <= (int64_t)most_of(book) && (int64_t)book->demand <= chosen->high + class->high;
 }
 
 static bool too_dear(const struct sums *class, const int64_t *highest)
@@ -284,7 +295,7 @@ static bool hopeless(const struct choice *c, const struct bounds *b, size_t n, c
     for (size_t k = 0; k < b->counts[n]; k++) {
         const struct sums *class = &b->classes[n][k];
 
-        if (reaches(class, chosen, c->book->demand) && !(c->best.found && too_dear(class, highest))) {
+        if (reaches(class, chosen, c->book) && !(c->best.found && too_dear(class, highest))) {
             return false;
         }
     }
@@ -305,7 +316,7 @@ static void choose(struct choice *c, const struct bounds *b, size_t at, const st
     }
     bid = &c->book->bids[at];
     for (size_t j = bid->count + 1; j-- > 0;) {
-        struct sums sums = with(chosen, &bid->segments[j], c->book->demand, b->prices);
+        struct sums sums = with(chosen, &bid->segments[j], most_of(c->book), b->prices);
 
         c->chosen[at] = &bid->segments[j];
         if (!hopeless(c, b, at + 1, &sums)) {

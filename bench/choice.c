@@ -32,12 +32,13 @@ static uint64_t share(const struct choice *c, size_t i, uint64_t left)
     return width < left - earlier ? width : left - earlier;
 }
 
-/* The cheapest quantities within a choice that fits. */
+/* The cheapest quantities within a choice that fits, and of equally cheap ones the fewest: as many as the demand, or as the starts where they
+ * pass it. */
 static void fill(const struct choice *c, struct division *out)
 {
-    uint64_t left = c->book->demand - c->starts;
+    uint64_t left = c->starts < c->book->demand ? c->book->demand - c->starts : 0;
 
-    *out = (struct division){.found = true};
+    *out = (struct division){.found = true, .bought = c->starts + left};
     for (size_t i = c->book->count; i-- > 0;) {
         const struct segment *s = c->chosen[i];
         uint64_t x = share(c, i, left);
@@ -53,6 +54,9 @@ static bool better(const struct division *a, const struct division *b, size_t n)
     if (a->total != b->total) {
         return a->total < b->total;
     }
+    if (a->bought != b->bought) {
+        return a->bought < b->bought;
+    }
     for (size_t i = 0; i < n; i++) {
         if (a->quantities[i] != b->quantities[i]) {
             return a->quantities[i] > b->quantities[i];
@@ -65,7 +69,7 @@ void choice_compare(struct choice *c)
 {
     struct division new;
 
-    if (c->book->demand < c->starts || c->ends < c->book->demand) {
+    if (most_of(c->book) < c->starts || c->ends < c->book->demand) {
         return;
     }
     fill(c, &new);
@@ -92,6 +96,7 @@ void choice_clear(const struct book *book, search *best_of, bool skip, struct cl
         return;
     }
     out->covered = true;
+    out->bought = all.bought;
     out->total = all.total;
     memcpy(out->quantities, all.quantities, sizeof out->quantities);
     for (size_t i = 0; i < book->count; i++) {

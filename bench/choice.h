@@ -7,10 +7,11 @@
 struct division {
     bool found;
     int64_t total;
+    uint64_t bought;
     uint64_t quantities[BIDS];
 };
 
-/* The segments chosen so far with the sums of their starts and of their ends, and the best division so far of the book's demand. */
+/* The segments chosen so far with the sums of their starts and of their ends, and the best division so far. */
 struct choice {
     const struct book *book;
     const struct segment *chosen[BIDS];
@@ -33,7 +34,7 @@ static inline void choice_drop(struct choice *c, size_t i)
     c->ends -= c->chosen[i]->end;
 }
 
-/* The division of a complete choice, where it fits the demand, is compared with the best so far. */
+/* The division of a complete choice, where it fits demand and allowance, is compared with the best so far. */
 void choice_compare(struct choice *c);
 
 /* A search: from a choice of nothing, without a best division, it leaves the best of all divisions in c->best. */

@@ -1,5 +1,5 @@
-/* The dynamic program: the least price at which the bidders from i on sell q blanks, for each i from the last and each q up to the demand.
- * For each segment it is the least of a sliding window, so each segment takes time linear in the demand. */
+/* The dynamic program: the least price at which the bidders from i on sell q blanks, for each i from the last and each q up to the most that
+ * is taken, which is demand and allowance. For each segment it is the least of a sliding window, so each segment takes time linear in that. */
 #include "book.h"
 
 #include <stdlib.h>
@@ -35,10 +35,10 @@ static void drop(struct window *w, uint64_t end, uint64_t q)
 
 /* Lowers now[q] to the least price with this bidder on segment s, where the bidders after it sell at the prices `after`. With p sold after
  * it, the price is unit * q + fixed + (after[p] - unit * p), for q - end <= p <= q - start. */
-static void lower(const struct segment *s, uint64_t demand, const int64_t *after, int64_t *now, struct window *w)
+static void lower(const struct segment *s, uint64_t most, const int64_t *after, int64_t *now, struct window *w)
 {
     w->first = w->last = 0;
-    for (uint64_t q = s->start; q <= demand; q++) {
+    for (uint64_t q = s->start; q <= most; q++) {
         uint64_t p = q - s->start;
 
         if (after[p] < NEVER) {
@@ -61,23 +61,34 @@ static void without_bidders(int64_t *now, size_t width)
 }
 
 /* The least prices with this bidder, where those after it sell at the prices `after`. */
-static void with_bidder(const struct bid *bid, uint64_t demand, const int64_t *after, int64_t *now, struct window *w)
+static void with_bidder(const struct bid *bid, uint64_t most, const int64_t *after, int64_t *now, struct window *w)
 {
-    memcpy(now, after, (demand + 1) * sizeof *now); /* segment 0 */
+    memcpy(now, after, (most + 1) * sizeof *now); /* segment 0 */
     for (size_t j = 1; j <= bid->count; j++) {
-        lower(&bid->segments[j], demand, after, now, w);
+        lower(&bid->segments[j], most, after, now, w);
     }
 }
 
-/* Fills tables[i * (demand + 1) + q] for i from book->count to 0. */
+/* Fills tables[i * (most_of(book) + 1) + q] for i from book->count to 0. */
 static void tables_of(const struct book *book, int64_t *tables, struct window *w)
 {
-    size_t width = book->demand + 1;
+    size_t width = most_of(book) + 1;
 
     without_bidders(tables + book->count * width, width);
     for (size_t i = book->count; i-- > 0;) {
-        with_bidder(&book->bids[i], book->demand, tables + (i + 1) * width, tables + i * width, w);
+        with_bidder(&book->bids[i], most_of(book), tables + (i + 1) * width, tables + i * width, w);
     }
+}
+
+/* Of the quantities that are taken, the lowest of the cheapest at these prices. */
+static uint64_t cheapest(const struct book *book, const int64_t *prices)
+{
+    uint64_t best = book->demand;
+
+    for (uint64_t q = book->demand; q <= most_of(book); q++) {
+        best = prices[q] < prices[best] ? q : best;
+    }
+    return best;
 }
 
 /* The most of `left` that can be sold on a segment at the least price, where the bidders after it sell at the prices `after`; else 0. */
@@ -102,11 +113,11 @@ static uint64_t most(const struct bid *bid, uint64_t left, int64_t least, const 
     return x;
 }
 
-/* The award of the book: by the rule for ties the first bidder gets most, then the second, and so on. */
-static void quantities_of(const struct book *book, const int64_t *tables, uint64_t *quantities)
+/* The award of the book, where so many blanks are bought: by the rule for ties the first bidder gets most, then the second, and so on. */
+static void quantities_of(const struct book *book, uint64_t bought, const int64_t *tables, uint64_t *quantities)
 {
-    size_t width = book->demand + 1;
-    uint64_t left = book->demand;
+    size_t width = most_of(book) + 1;
+    uint64_t left = bought;
 
     for (size_t i = 0; i < book->count; i++) {
         quantities[i] = most(&book->bids[i], left, tables[i * width + left], tables + (i + 1) * width);
@@ -116,27 +127,33 @@ static void quantities_of(const struct book *book, const int64_t *tables, uint64
 
 static void clear(const struct book *book, int64_t *tables, struct window *w, struct clearing *out)
 {
+    uint64_t bought;
+
     memset(out, 0, sizeof *out);
     tables_of(book, tables, w);
-    if (tables[book->demand] == NEVER) {
+    bought = cheapest(book, tables);
+    if (tables[bought] == NEVER) {
         return;
     }
     out->covered = true;
-    out->total = tables[book->demand];
-    quantities_of(book, tables, out->quantities);
+    out->bought = bought;
+    out->total = tables[bought];
+    quantities_of(book, bought, tables, out->quantities);
     for (size_t i = 0; i < book->count; i++) {
         struct book left;
+        int64_t total;
 
         book_without(book, i, &left);
         tables_of(&left, tables, w);
-        out->covered_without[i] = tables[book->demand] < NEVER;
-        out->without[i] = out->covered_without[i] ? tables[book->demand] : 0;
+        total = tables[cheapest(&left, tables)];
+        out->covered_without[i] = total < NEVER;
+        out->without[i] = out->covered_without[i] ? total : 0;
     }
 }
 
 bool dp_clear(const struct book *book, struct clearing *out)
 {
-    size_t width = book->demand + 1;
+    size_t width = most_of(book) + 1;
     int64_t *tables = malloc((book->count + 1) * width * sizeof *tables);
     struct window w = {.places = malloc(width * sizeof *w.places), .keys = malloc(width * sizeof *w.keys)};
     bool memory = tables != NULL && w.places != NULL && w.keys != NULL;

@@ -1,7 +1,7 @@
-/* Random books of families that are hard for the search, eight bids of six segments with carriage 0 each: `families COUNT RUNS` makes COUNT
- * books of each family, always the same, runs the product and the bounded plain C search on each and compares what they give. It prints a
- * line for each family: its name, COUNT, and for the product, then for the plain C search, the mean and the most milliseconds of a book, of
- * which the fastest of RUNS runs counts. The status is 1 where the two differ in anything.
+/* Random books of families that are hard for the search, eight bids of six segments with carriage 0 each and no allowance: `families COUNT
+ * RUNS` makes COUNT books of each family, always the same, runs the product and the bounded plain C search on each and compares what they
+ * give. It prints a line for each family: its name, COUNT, and for the product, then for the plain C search, the mean and the most
+ * milliseconds of a book, of which the fastest of RUNS runs counts. The status is 1 where the two differ in anything.
  */
 #include "methods.h"
 
@@ -76,7 +76,7 @@ static void set_prices(struct segment *s, int64_t unit, int64_t fixed)
     s->fixed = fixed;
 }
 
-/* A book without bidders' prices: the numbers of the bidders, carriage 0, and six segments each. */
+/* A book without bidders' prices: no allowance, the numbers of the bidders, carriage 0, and six segments each. */
 static void begin(struct book *book)
 {
     *book = (struct book){.count = BIDS};

@@ -79,7 +79,12 @@ int main(int argc, char **argv)
     each(&book, cost);
     printf("Subject To\n demand:\n");
     each(&book, quantity);
-    printf(" = %" PRIu64 "\n", book.demand);
+    printf(" %s %" PRIu64 "\n", book.allowance == 0 ? "=" : ">=", book.demand);
+    if (book.allowance > 0) {
+        printf(" most:\n");
+        each(&book, quantity);
+        printf(" <= %" PRIu64 "\n", most_of(&book));
+    }
     each(&book, bounds);
     one_each(&book);
     printf("Binary\n");

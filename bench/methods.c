@@ -10,8 +10,9 @@
 
 static bool product(const struct text *text, const struct book *book, struct clearing *out)
 {
-    uint64_t rows[BOCCELARCH_AWARD_NUMBERS], place, total, count;
-    uint64_t number = boccelarch_award((const uint8_t *)text->bytes, text->length, rows, BOCCELARCH_AWARD_NUMBERS, &place, &total, &count);
+    uint64_t rows[BOCCELARCH_AWARD_NUMBERS], place, bought, total, count;
+    uint64_t number = boccelarch_award((const uint8_t *)text->bytes, text->length, rows, BOCCELARCH_AWARD_NUMBERS, &place, &bought, &total,
+                                       &count);
 
     (void)book;
     memset(out, 0, sizeof *out);
@@ -19,6 +20,7 @@ static bool product(const struct text *text, const struct book *book, struct cle
         return number == BOCCELARCH_NOT_COVERED;
     }
     out->covered = true;
+    out->bought = bought;
     out->total = (int64_t)total;
     for (size_t i = 0; i < count; i++) {
         const uint64_t *row = rows + i * BOCCELARCH_COLUMNS;
@@ -59,7 +61,7 @@ const struct method METHODS[METHOD_COUNT] = {
 
 static bool same(const struct clearing *a, const struct clearing *b)
 {
-    bool equal = a->covered == b->covered && a->total == b->total;
+    bool equal = a->covered == b->covered && a->bought == b->bought && a->total == b->total;
 
     for (size_t i = 0; i < BIDS; i++) {
         equal = equal && a->quantities[i] == b->quantities[i] && a->covered_without[i] == b->covered_without[i];
@@ -70,7 +72,7 @@ static bool same(const struct clearing *a, const struct clearing *b)
 
 static void show(const char *name, const struct clearing *c)
 {
-    fprintf(stderr, "%s: %s, total %" PRId64, name, c->covered ? "covered" : "not covered", c->total);
+    fprintf(stderr, "%s: %s, bought %" PRIu64 ", total %" PRId64, name, c->covered ? "covered" : "not covered", c->bought, c->total);
     for (size_t i = 0; i < BIDS; i++) {
         fprintf(stderr, "; %" PRIu64 " without %s %" PRId64, c->quantities[i], c->covered_without[i] ? "amount" : "none", c->without[i]);
     }

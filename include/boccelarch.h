@@ -2,11 +2,12 @@
  *
  * A bid book is a line for the demand and then one for each bid, each ended by byte 10:
  *
- *     (demand 120)
+ *     (demand 120 10)
  *     (bid 3 250 (seg 1 60 400 0) (seg 61 100 350 -500))
  *
- * A bid is the bidder number, the carriage in cents for one blank, and segments: start, end, unit price, fixed price. On a segment r blanks
- * cost (unit price + carriage) * r + fixed price. README.md has the ranges.
+ * The second number of the first line is the allowance: from the demand to demand + allowance blanks are bought, here 120 to 130. A bid is the
+ * bidder number, the carriage in cents for one blank, and segments: start, end, unit price, fixed price. On a segment r blanks cost
+ * (unit price + carriage) * r + fixed price. README.md has the ranges.
  *
  * A sampling table says how many blanks of an awarded quantity are sampled. It is a line for each band: its highest quantity, and the sample:
  *
@@ -60,7 +61,7 @@ enum boccelarch_refusal {
     BOCCELARCH_BIDDER_ORDER = 6,   /* a bidder number not above the one before: the line */
     BOCCELARCH_SEGMENT_ORDER = 7,  /* a start above its end, or not above the end before: the line */
     BOCCELARCH_NEGATIVE_PRICE = 8, /* a negative price at a start, without carriage: the line */
-    BOCCELARCH_NOT_COVERED = 9,    /* no allocation meets the demand exactly: 0 */
+    BOCCELARCH_NOT_COVERED = 9,    /* no allocation adds up to from the demand to demand + allowance: 0 */
     BOCCELARCH_OUTPUT_LENGTH = 10, /* the output is too short: the bytes needed */
     BOCCELARCH_SPLIT_QUANTITY = 11, /* a quantity missing, neither 0 nor on a segment, or one too many: the line */
     BOCCELARCH_SAMPLING_TABLE = 12 /* a band of a sampling table that breaks a rule: the first such line */
@@ -78,11 +79,11 @@ uint64_t boccelarch_sheet(const uint8_t *text, size_t text_length, uint8_t *out,
 /* Enough for every page. */
 #define BOCCELARCH_PAGE_BYTES 585
 
-/* The page of the award, for print, and its length in bytes: a line for demand and total, then one for each bid, in book order. A line is 64
- * bytes and a byte 10, so line i, counted from 0, begins at byte 65 * i. What it shows stands in these of its bytes, set to the right with
- * spaces before:
+/* The page of the award, for print, and its length in bytes: a line for demand, blanks bought and total, then one for each bid, in book
+ * order. A line is 64 bytes and a byte 10, so line i, counted from 0, begins at byte 65 * i. What it shows stands in these of its bytes, set
+ * to the right with spaces before:
  *
- *     line 0      0 to 19 demand, 20 to 63 total
+ *     line 0      0 to 19 demand, 20 to 39 bought, 40 to 63 total
  *     other lines 0 to 5 bidder, 6 to 9 segment, 10 to 19 quantity, 20 to 39 price, 40 to 45 sample, 46 to 63 total without this bidder
  *
  * The price and both totals have a point and two decimals, so that 5 cents are 0.05 and 0 cents 0.00; instead of a total without a bidder
@@ -93,17 +94,18 @@ uint64_t boccelarch_page(const uint8_t *text, size_t text_length, uint8_t *out, 
  * BOCCELARCH_TEXT_BYTES holds every accepted book, and so does one of the bytes that boccelarch_room gives for it. */
 uint64_t boccelarch_write(const uint8_t *text, size_t text_length, uint8_t *out, size_t out_length, uint64_t *place, uint64_t *bytes);
 
-/* The room figure, how many bytes the book's text takes at most: 17 + 17 for each bid + 45 for each segment. Refused by 1 to 8. */
+/* The room figure, how many bytes the book's text takes at most: 25 + 17 for each bid + 45 for each segment. Refused by 1 to 8. */
 uint64_t boccelarch_room(const uint8_t *text, size_t text_length, uint64_t *place, uint64_t *bytes);
 
 /* The price in cents of a proposed split, carriage with it: one quantity for each bid in book order, whether or not the demand can be
- * covered. *meets is 1 if the quantities add up to the demand, else 0. Refused by 1 to 8 and 11. */
+ * covered. *meets is 1 if the quantities add up to at least the demand and at most demand + allowance, else 0. Refused by 1 to 8 and 11. */
 uint64_t boccelarch_split(const uint8_t *text, size_t text_length, const uint64_t *quantities, size_t count, uint64_t *place, int64_t *price,
                           uint64_t *meets);
 
 /* The award as numbers: a row of BOCCELARCH_COLUMNS numbers for each bid, in book order, so that the quantity of the third bid is
- * rows[2 * BOCCELARCH_COLUMNS + BOCCELARCH_QUANTITY]; the total price in cents; and how many bids there are. rows_length counts numbers,
- * not bytes. Refused by 1 to 10; 10 gives the bytes needed, 8 for each number, so that a list of *place / 8 numbers is long enough. */
+ * rows[2 * BOCCELARCH_COLUMNS + BOCCELARCH_QUANTITY]; the blanks bought, which are those of all quantities together; the total price in
+ * cents; and how many bids there are. rows_length counts numbers, not bytes. Refused by 1 to 10; 10 gives the bytes needed, 8 for each
+ * number, so that a list of *place / 8 numbers is long enough. */
 enum boccelarch_column {
     BOCCELARCH_BIDDER = 0,
     BOCCELARCH_SEGMENT = 1,  /* 0 for a bidder who sells nothing */
@@ -118,8 +120,8 @@ enum boccelarch_column {
 /* Enough for every award. */
 #define BOCCELARCH_AWARD_NUMBERS (8 * BOCCELARCH_COLUMNS)
 
-uint64_t boccelarch_award(const uint8_t *text, size_t text_length, uint64_t *rows, size_t rows_length, uint64_t *place, uint64_t *total,
-                          uint64_t *count);
+uint64_t boccelarch_award(const uint8_t *text, size_t text_length, uint64_t *rows, size_t rows_length, uint64_t *place, uint64_t *bought,
+                          uint64_t *total, uint64_t *count);
 
 /* The sheet, the page and the award likewise, sampled by a table that is passed before the book. The table is refused by 1, 2 and 12 before
  * anything of the book. BOCCELARCH_SHEET_BYTES and BOCCELARCH_PAGE_BYTES are enough with every table. */
@@ -128,7 +130,7 @@ uint64_t boccelarch_sheet_by_table(const uint8_t *table, size_t table_length, co
 uint64_t boccelarch_page_by_table(const uint8_t *table, size_t table_length, const uint8_t *text, size_t text_length, uint8_t *out,
                                   size_t out_length, uint64_t *place, uint64_t *bytes);
 uint64_t boccelarch_award_by_table(const uint8_t *table, size_t table_length, const uint8_t *text, size_t text_length, uint64_t *rows,
-                                   size_t rows_length, uint64_t *place, uint64_t *total, uint64_t *count);
+                                   size_t rows_length, uint64_t *place, uint64_t *bought, uint64_t *total, uint64_t *count);
 
 /* Enough for every table that passes. */
 #define BOCCELARCH_TABLE_BYTES 336

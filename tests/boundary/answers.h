@@ -34,13 +34,13 @@ static struct output output_in(struct text written, size_t room)
 }
 
 struct award {
-    uint64_t number, place, total, count;
+    uint64_t number, place, bought, total, count;
     const row *rows;
 };
 
 static struct award refused_award(uint64_t number, uint64_t place)
 {
-    struct award refused = {0, 0, 0, 0, NULL};
+    struct award refused = {0, 0, 0, 0, 0, NULL};
 
     refused.number = number;
     refused.place = place;

@@ -116,13 +116,15 @@ static void check_award(const char *name, struct text text, size_t length, struc
 
     for (how = GUARDED; how <= EXACT; how++) {
         struct lent lent_text = lend_copy(how, text.bytes, text.length), rows = lend(how, length * sizeof(uint64_t));
-        struct lent place = lend(how, sizeof(uint64_t)), total = lend(how, sizeof(uint64_t)), count = lend(how, sizeof(uint64_t));
+        struct lent place = lend(how, sizeof(uint64_t)), bought = lend(how, sizeof(uint64_t));
+        struct lent total = lend(how, sizeof(uint64_t)), count = lend(how, sizeof(uint64_t));
 
         situate("award", name, text.length, length, how);
         expect_number("refusal", expected.number,
-                      boccelarch_award(lent_text.bytes, text.length, numbers(&rows), length, numbers(&place), numbers(&total),
-                                       numbers(&count)));
+                      boccelarch_award(lent_text.bytes, text.length, numbers(&rows), length, numbers(&place), numbers(&bought),
+                                       numbers(&total), numbers(&count)));
         take_back_number("place", &place, expected.place);
+        take_back_number("bought", &bought, expected.bought);
         take_back_number("total", &total, expected.total);
         take_back_number("count", &count, expected.count);
         expect_rows(&expected, numbers(&rows));
@@ -181,9 +183,10 @@ static void check_not_covered(const char *name, struct text text, uint64_t room_
 /* Every length of list: 10 with the bytes needed while it is too short. */
 static void check_award_lengths(const struct cleared *book)
 {
-    struct award accepted = {0, 0, 0, 0, NULL};
+    struct award accepted = {0, 0, 0, 0, 0, NULL};
     size_t length, needed = book->count * BOCCELARCH_COLUMNS;
 
+    accepted.bought = book->bought;
     accepted.total = book->total;
     accepted.count = book->count;
     accepted.rows = book->rows;
@@ -217,8 +220,12 @@ static void check_every_length(void)
 
 static void check_books_not_covered(void)
 {
-    check_not_covered("demand 301", (struct text)TEXT(BOOK(301)), 248);
-    check_not_covered("bidder 12 alone, demand 119", (struct text)TEXT(DEMAND(119) BID_12), 79);
+    check_not_covered("demand 301", (struct text)TEXT(BOOK(301)), 256);
+    check_not_covered("bidder 12 alone, demand 119", (struct text)TEXT(DEMAND(119) BID_12), 87);
+    check_not_covered("demand 301, which no allowance helps", (struct text)TEXT(ORDER(301, 1000000) BID_3 BID_8 BID_12), 256);
+    check_not_covered("starts that pass the demand by one more than the allowance", (struct text)TEXT(STARTS_BOOK(19)), 149);
+    check_not_covered("two bids of 999,999, one blank more than is taken",
+                      (struct text)TEXT(ORDER(1000000, 999997) DEAREST(9998, 999999) DEAREST(9999, 999999)), 149);
 }
 
 /* Texts that are refused */
@@ -251,17 +258,18 @@ static void check_rules(void)
 static void check_limits(void)
 {
     check_accepted("the longest line",
-                   (struct text)TEXT(DEMAND(1000000) "(bid 9999 10000 (seg 1000000 1000000 1000000 -1000000000000))\n"), 79);
-    check_accepted("the least numbers", (struct text)TEXT(DEMAND(1) "(bid 1 0 (seg 1 1 0 0))\n"), 79);
-    check_accepted("the widest segment", (struct text)TEXT(DEMAND(1) "(bid 1 0 (seg 1 1000000 0 1000000000000))\n"), 79);
+                   (struct text)TEXT(ORDER(1000000, 1000000) "(bid 9999 10000 (seg 1000000 1000000 1000000 -1000000000000))\n"), 87);
+    check_accepted("the least numbers", (struct text)TEXT(DEMAND(1) "(bid 1 0 (seg 1 1 0 0))\n"), 87);
+    check_accepted("the highest allowance", (struct text)TEXT(ORDER(1, 1000000) "(bid 1 0 (seg 1 1 0 0))\n"), 87);
+    check_accepted("the widest segment", (struct text)TEXT(DEMAND(1) "(bid 1 0 (seg 1 1000000 0 1000000000000))\n"), 87);
     check_accepted("price 0 at a start, and the highest carriage",
-                   (struct text)TEXT(DEMAND(120) CARRIED(3, 10000, " (seg 61 100 350 -21350)")), 79);
-    check_accepted("six segments", (struct text)TEXT(DEMAND(1) BID(1, SIX)), 304);
-    check_accepted("eight bids", (struct text)TEXT(DEMAND(1) SEVEN_GOOD GOOD(8)), 513);
+                   (struct text)TEXT(DEMAND(120) CARRIED(3, 10000, " (seg 61 100 350 -21350)")), 87);
+    check_accepted("six segments", (struct text)TEXT(DEMAND(1) BID(1, SIX)), 312);
+    check_accepted("eight bids", (struct text)TEXT(DEMAND(1) SEVEN_GOOD GOOD(8)), 521);
     check_accepted("eight bids of six segments",
                    (struct text)TEXT(DEMAND(1) BID(1, SIX) BID(2, SIX) BID(3, SIX) BID(4, SIX) BID(5, SIX) BID(6, SIX) BID(7, SIX)
                                          BID(8, SIX)),
-                   2313);
+                   2321);
 }
 
 /* Beginnings of document 01's book. One that ends with a bid's line is itself a book, that of two bids among those that are cleared; every
@@ -274,7 +282,7 @@ static void check_beginnings(void)
     for (beginning.length = 0; beginning.length < book.length; beginning.length++)
         if (beginning.length != one_bid.length && beginning.length != two_bids.length)
             check_refused("a beginning", beginning, BOCCELARCH_SHAPE, beginning.length);
-    check_not_covered("the first bid", one_bid, 124);
+    check_not_covered("the first bid", one_bid, 132);
 }
 
 /* What follows in memory is not taken for a part of the text or of the list, even if it would fit. */
@@ -306,7 +314,7 @@ static char long_bytes[BOCCELARCH_TEXT_BYTES + 1000];
 /* The beginning, of that length, of a book whose first bid has ever more segments. A segment ends before byte 4,094. */
 static struct text endless(size_t length)
 {
-    static const struct text first = TEXT(DEMAND(1) "(bid 1 0 (seg 1 10 0 0)"), further = TEXT(" (seg 1 1 0 0)");
+    static const struct text first = TEXT(ORDER(1000000, 1000000) "(bid 1 0 (seg 1 10 0 0)"), further = TEXT(" (seg 1 1 0 0)");
     struct text text = {long_bytes, 0};
     size_t place;
 

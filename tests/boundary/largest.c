@@ -14,7 +14,7 @@
 #include "boccelarch.h"
 #include "checks.h"
 
-enum { BIDS = 8, SEGMENTS = 6, ROOM = 17 + BIDS * (17 + SEGMENTS * 45) };
+enum { BIDS = 8, SEGMENTS = 6, ROOM = 25 + BIDS * (17 + SEGMENTS * 45) };
 
 /* Texts */
 
@@ -57,15 +57,20 @@ static void append_bid(struct text *book, unsigned bid, unsigned carriage)
     append(book, ")\n");
 }
 
-/* The first bid has this carriage, and each further one so much more. */
-static void make_book(struct text *book, uint64_t demand, unsigned carriage, unsigned more)
+/* What is ordered, and the carriage of the first bid; each further one has so much more. */
+struct plan {
+    uint64_t demand, allowance;
+    unsigned carriage, more;
+};
+
+static void make_book(struct text *book, const struct plan *plan)
 {
     unsigned bid;
 
     book->length = 0;
-    append(book, "(demand %" PRIu64 ")\n", demand);
+    append(book, "(demand %" PRIu64 " %" PRIu64 ")\n", plan->demand, plan->allowance);
     for (bid = 0; bid < BIDS; bid++)
-        append_bid(book, bid, carriage + more * bid);
+        append_bid(book, bid, plan->carriage + plan->more * bid);
 }
 
 /* What the entries answer */
@@ -76,7 +81,7 @@ struct output {
 };
 
 struct award {
-    uint64_t number, place, total, count, rows[BOCCELARCH_AWARD_NUMBERS];
+    uint64_t number, place, bought, total, count, rows[BOCCELARCH_AWARD_NUMBERS];
 };
 
 struct answers {
@@ -125,7 +130,7 @@ static void call_table_entries(struct answers *a)
     call_by_table(boccelarch_sheet_by_table, a, BOCCELARCH_SHEET_BYTES, &a->sheet_by_table);
     call_by_table(boccelarch_page_by_table, a, BOCCELARCH_PAGE_BYTES, &a->page_by_table);
     award->number = boccelarch_award_by_table(a->table.out, a->table.bytes, (const uint8_t *)a->book->bytes, a->book->length, award->rows,
-                                              BOCCELARCH_AWARD_NUMBERS, &award->place, &award->total, &award->count);
+                                              BOCCELARCH_AWARD_NUMBERS, &award->place, &award->bought, &award->total, &award->count);
 }
 
 /* For pthread_create. Everything that is lent lies outside of the thread's stack. */
@@ -139,8 +144,8 @@ static void *call_entries(void *answers)
     call_output(boccelarch_sheet, a->book, BOCCELARCH_SHEET_BYTES, &a->sheet);
     call_output(boccelarch_page, a->book, BOCCELARCH_PAGE_BYTES, &a->page);
     call_output(boccelarch_write, a->book, BOCCELARCH_TEXT_BYTES, &a->written);
-    a->award.number = boccelarch_award(text, length, a->award.rows, BOCCELARCH_AWARD_NUMBERS, &a->award.place, &a->award.total,
-                                       &a->award.count);
+    a->award.number = boccelarch_award(text, length, a->award.rows, BOCCELARCH_AWARD_NUMBERS, &a->award.place, &a->award.bought,
+                                       &a->award.total, &a->award.count);
     a->room.number = boccelarch_room(text, length, &a->room.place, &a->room.bytes);
     for (bid = 0; bid < BIDS; bid++)
         a->split.quantities[bid] = in_award(a, bid, BOCCELARCH_QUANTITY);
@@ -201,7 +206,7 @@ static void make_sheet(struct text *sheet, uint64_t demand, const struct answers
     uint64_t bid;
 
     sheet->length = 0;
-    append(sheet, "(award %" PRIu64 " %" PRIu64 ")\n", demand, a->award.total);
+    append(sheet, "(award %" PRIu64 " %" PRIu64 " %" PRIu64 ")\n", demand, a->award.bought, a->award.total);
     for (bid = 0; bid < BIDS; bid++) {
         append(sheet, "(buy %" PRIu64 " %" PRIu64 " %" PRIu64, in_award(a, bid, BOCCELARCH_BIDDER), in_award(a, bid, BOCCELARCH_SEGMENT),
                in_award(a, bid, BOCCELARCH_QUANTITY));
@@ -224,8 +229,8 @@ static void make_page(struct text *page, uint64_t demand, const struct answers *
     uint64_t bid;
 
     page->length = 0;
-    append(page, "%20" PRIu64, demand);
-    append_money(page, 44, a->award.total);
+    append(page, "%20" PRIu64 "%20" PRIu64, demand, a->award.bought);
+    append_money(page, 24, a->award.total);
     append(page, "\n");
     for (bid = 0; bid < BIDS; bid++) {
         append(page, "%6" PRIu64 "%4" PRIu64 "%10" PRIu64, in_award(a, bid, BOCCELARCH_BIDDER), in_award(a, bid, BOCCELARCH_SEGMENT),
@@ -274,12 +279,18 @@ static void check_by_table(const struct answers *a, const struct text *sheet, co
     expect_output("page by table", page, &a->page_by_table);
     expect_accepted("award by table", a->award_by_table.number, a->award_by_table.place);
     expect_number("bids by table", BIDS, a->award_by_table.count);
+    expect_number("bought by table", a->award.bought, a->award_by_table.bought);
     expect_number("total by table", a->award.total, a->award_by_table.total);
     for (number = 0; number < BOCCELARCH_AWARD_NUMBERS; number++)
         expect_number("a number of the award by table", a->award.rows[number], a->award_by_table.rows[number]);
 }
 
-static void check_answers(const struct answers *a, uint64_t demand, uint64_t total, uint64_t covered)
+/* What an award should be; `covered`: without how many of the bidders, each taken out alone, the demand is covered. */
+struct expected {
+    uint64_t bought, total, covered;
+};
+
+static void check_answers(const struct answers *a, uint64_t demand, const struct expected *expected)
 {
     static struct text sheet, page;
 
@@ -294,40 +305,50 @@ static void check_answers(const struct answers *a, uint64_t demand, uint64_t tot
 
     expect_number("room figure", ROOM, a->room.bytes);
     expect_number("bids", BIDS, a->award.count);
-    expect_number("quantities", demand, sum(a, BOCCELARCH_QUANTITY));
-    expect_number("total", total, a->award.total);
+    expect_number("bought", expected->bought, a->award.bought);
+    expect_number("quantities", a->award.bought, sum(a, BOCCELARCH_QUANTITY));
+    expect_number("total", expected->total, a->award.total);
     expect_number("prices", a->award.total, sum(a, BOCCELARCH_PRICE));
-    expect_number("bidders who are not needed", covered, sum(a, BOCCELARCH_COVERED));
+    expect_number("bidders who are not needed", expected->covered, sum(a, BOCCELARCH_COVERED));
     expect_number("price of the split", a->award.total, (uint64_t)a->split.price);
-    expect_number("split meets the demand", 1, a->split.meets);
+    expect_number("split is taken", 1, a->split.meets);
     check_by_table(a, &sheet, &page);
 }
 
-/* `covered`: without how many of the bidders, each taken out alone, the demand is covered. */
-static void check_book(uint64_t demand, unsigned carriage, unsigned more, uint64_t total, uint64_t covered)
+static void check_book(struct plan plan, struct expected expected)
 {
     static struct text book;
     static struct answers answers;
 
-    make_book(&book, demand, carriage, more);
+    make_book(&book, &plan);
     answers.book = &book;
-    snprintf(situation, sizeof situation, "demand %" PRIu64 ", carriage %u and %u more for each bid", demand, carriage, more);
+    snprintf(situation, sizeof situation, "demand %" PRIu64 " %" PRIu64 ", carriage %u and %u more for each bid", plan.demand,
+             plan.allowance, plan.carriage, plan.more);
     call_entries_in_thread(&answers);
-    check_answers(&answers, demand, total, covered);
+    check_answers(&answers, plan.demand, &expected);
 }
+
+#define CHECK_BOOK(demand, allowance, carriage, more, bought, total, covered)                                                             \
+    check_book((struct plan){demand, allowance, carriage, more}, (struct expected){bought, total, covered})
 
 int main(void)
 {
     setvbuf(stdout, NULL, _IOLBF, 0); /* the lines of failures stand even if a call ends the program */
     /* The totals are those of the cheapest price of each quantity, found with one bid more after another. */
-    check_book(35000, 0, 0, 13504960, 8);
-    check_book(106500, 0, 0, 41491240, 4); /* of 121,680 that the bids sell together; the fourth sells 15,180, the fifth 15,240 */
+    CHECK_BOOK(35000, 0, 0, 0, 35000, 13504960, 8);
+    /* Of 121,680 that the bids sell together; the fourth sells 15,180, the fifth 15,240. */
+    CHECK_BOOK(106500, 0, 0, 0, 106500, 41491240, 4);
     /* The same carriage for all: for each blank of the demand so much more. */
-    check_book(35000, 10000, 0, 13504960 + UINT64_C(350000000), 8);
-    check_book(106500, 10000, 0, 41491240 + UINT64_C(1065000000), 4);
+    CHECK_BOOK(35000, 0, 10000, 0, 35000, 13504960 + UINT64_C(350000000), 8);
+    CHECK_BOOK(106500, 0, 10000, 0, 106500, 41491240 + UINT64_C(1065000000), 4);
     /* Carriages that make later bidders the dearer ones. */
-    check_book(35000, 0, 6, 14246884, 8);
-    check_book(106500, 0, 6, 43750720, 4);
+    CHECK_BOOK(35000, 0, 0, 6, 35000, 14246884, 8);
+    CHECK_BOOK(106500, 0, 0, 6, 106500, 43750720, 4);
+    /* Allowances: the starts of the cheapest choice pass the demand by 53; in the last book no starts that pass it are cheaper. */
+    CHECK_BOOK(37600, 52, 0, 6, 37600, 15301606, 8);
+    CHECK_BOOK(37600, 53, 0, 6, 37653, 15287094, 8);
+    CHECK_BOOK(37600, 1000000, 0, 6, 37653, 15287094, 8);
+    CHECK_BOOK(106500, 1000000, 0, 0, 106500, 41491240, 4);
     printf("%lu passed, %lu failed\n", passed, failed);
     return failed > 0;
 }

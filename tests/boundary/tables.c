@@ -107,7 +107,7 @@ static const struct refused misshapen[] = {
     STOPS("a bracket after the table", BAND(1000000, 1) "(", ""),
     STOPS("a wrong line before a wrong shape", BAND(0, 0) "(band ", "x 1)\n"),
     STOPS("seventeen bands before a wrong shape", FIFTEEN BAND(16, 16) BAND(17, 17) "(band ", "x 1)\n"),
-    STOPS("a book", "(", "demand 120)\n" BID_3),
+    STOPS("a book", "(", "demand 120 0)\n" BID_3),
 };
 
 /* Document 01's book with demand 120, on the sheet and on the page with samples of the table's own. */
@@ -120,7 +120,7 @@ static struct text paper_sheet(uint64_t of_100, uint64_t of_20)
     struct text sheet = {bytes, 0};
 
     sheet.length = (size_t)snprintf(bytes, sizeof bytes,
-                                    "(award 120 43100)\n(buy 3 2 100 34500 %" PRIu64 " (without 44400))\n(buy 8 1 20 8600 %" PRIu64
+                                    "(award 120 120 43100)\n(buy 3 2 100 34500 %" PRIu64 " (without 44400))\n(buy 8 1 20 8600 %" PRIu64
                                     " (without 44400))\n(buy 12 0 0 0 0 (without 43100))\n",
                                     of_100, of_20);
     return sheet;
@@ -132,7 +132,7 @@ static struct text paper_page(uint64_t of_100, uint64_t of_20)
     struct text page = {bytes, 0};
 
     page.length = (size_t)snprintf(bytes, sizeof bytes,
-                                   "                 120                                      431.00\n"
+                                   "                 120                 120                  431.00\n"
                                    "     3   2       100              345.00%6" PRIu64 "            444.00\n"
                                    "     8   1        20               86.00%6" PRIu64 "            444.00\n"
                                    "    12   0         0                0.00     0            431.00\n",
@@ -181,13 +181,14 @@ static void check_award(const char *name, struct text table, struct text text, s
     for (how = GUARDED; how <= EXACT; how++) {
         struct lent lent_table = lend_copy(how, table.bytes, table.length), lent_text = lend_copy(how, text.bytes, text.length);
         struct lent rows = lend(how, length * sizeof(uint64_t)), place = lend(how, sizeof(uint64_t));
-        struct lent total = lend(how, sizeof(uint64_t)), count = lend(how, sizeof(uint64_t));
+        struct lent bought = lend(how, sizeof(uint64_t)), total = lend(how, sizeof(uint64_t)), count = lend(how, sizeof(uint64_t));
 
         situate("award by table", name, text.length, length, how);
         expect_number("refusal", expected.number,
                       boccelarch_award_by_table(lent_table.bytes, table.length, lent_text.bytes, text.length, numbers(&rows), length,
-                                                numbers(&place), numbers(&total), numbers(&count)));
+                                                numbers(&place), numbers(&bought), numbers(&total), numbers(&count)));
         take_back_number("place", &place, expected.place);
+        take_back_number("bought", &bought, expected.bought);
         take_back_number("total", &total, expected.total);
         take_back_number("count", &count, expected.count);
         expect_rows(&expected, numbers(&rows));
@@ -305,7 +306,7 @@ static void check_samples(void)
     for (i = 0; i < COUNT(passing); i++) {
         uint64_t of_100 = passing[i].of_100, of_20 = passing[i].of_20;
         row rows[] = {{3, 2, 100, 34500, 0, 1, 44400}, {8, 1, 20, 8600, 0, 1, 44400}, {12, 0, 0, 0, 0, 1, 43100}};
-        struct award award = {0, 0, 43100, 3, NULL};
+        struct award award = {0, 0, 120, 43100, 3, NULL};
 
         rows[0][BOCCELARCH_SAMPLE] = of_100;
         rows[1][BOCCELARCH_SAMPLE] = of_20;
@@ -322,8 +323,9 @@ static void check_books_by_printed_table(void)
     const struct cleared *book;
 
     for (book = cleared; book < cleared + COUNT(cleared); book++) {
-        struct award award = {0, 0, 0, 0, NULL};
+        struct award award = {0, 0, 0, 0, 0, NULL};
 
+        award.bought = book->bought;
         award.total = book->total;
         award.count = book->count;
         award.rows = book->rows;
@@ -341,8 +343,8 @@ static void check_widest(void)
 {
     static const struct text book = TEXT(DEMAND(875000) EIGHT_DEAR);
     static const struct text sheet =
-        TEXT("(award 875000 7875000000000)\n" SEVEN_LINES(SELLS_WIDE, 7875000000000) SELLS_NOTHING(9999, 7875000000000));
-    static const struct text page = TEXT("              875000                              78750000000.00\n" SEVEN_LINES(
+        TEXT("(award 875000 875000 7875000000000)\n" SEVEN_LINES(SELLS_WIDE, 7875000000000) SELLS_NOTHING(9999, 7875000000000));
+    static const struct text page = TEXT("              875000              875000          78750000000.00\n" SEVEN_LINES(
         PAGE_SELLS_WIDE, "    78750000000.00") PAGE_SELLS_NOTHING(9999, "    78750000000.00"));
 
     check_written(SHEET_BY, "samples of 99999", widest_table, book, sheet);

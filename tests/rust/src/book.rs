@@ -20,6 +20,7 @@ pub struct Bid {
 #[derive(Clone, Debug, PartialEq)]
 pub struct Book {
     pub demand: i64,
+    pub allowance: i64,
     pub bids: Vec<Bid>,
 }
 
@@ -108,12 +109,12 @@ impl Book {
     fn of_shape(text: &[u8]) -> Book {
         let text = std::str::from_utf8(text).expect("the shape has ASCII alone");
         let mut lines = text.lines().map(numbers);
-        let demand = lines.next().expect("a demand line")[0];
-        Book { demand, bids: lines.map(|line| bid_of(&line)).collect() }
+        let first = lines.next().expect("a demand line");
+        Book { demand: first[0], allowance: first[1], bids: lines.map(|line| bid_of(&line)).collect() }
     }
 
     fn line_refusal(&self) -> Option<Refusal> {
-        if !quantity_in_range(self.demand) {
+        if !quantity_in_range(self.demand) || !(0..=1_000_000).contains(&self.allowance) {
             return Some(refusal(5, 1));
         }
         (0..self.bids.len()).find_map(|index| self.bid_refusal(index))
@@ -135,15 +136,20 @@ impl Book {
 
     pub fn written(&self) -> Vec<u8> {
         let bids: String = self.bids.iter().map(bid_line).collect();
-        format!("(demand {})\n{bids}", self.demand).into_bytes()
+        format!("(demand {} {})\n{bids}", self.demand, self.allowance).into_bytes()
     }
 
     pub fn room(&self) -> u64 {
         let segments: usize = self.bids.iter().map(|bid| bid.segments.len()).sum();
-        (17 + 17 * self.bids.len() + 45 * segments) as u64
+        (25 + 17 * self.bids.len() + 45 * segments) as u64
     }
 
-    /// The price of a split and whether its quantities add up to the demand.
+    /// Whether so many blanks are taken: at least the demand, and at most demand and allowance.
+    pub fn takes(&self, blanks: i64) -> bool {
+        self.demand <= blanks && blanks <= self.demand + self.allowance
+    }
+
+    /// The price of a split and whether so many blanks as its quantities add up to are taken.
     pub fn split(&self, quantities: &[u64]) -> Result<(i64, bool), Refusal> {
         let mut price = 0;
         let mut sum = 0;
@@ -157,7 +163,7 @@ impl Book {
         if quantities.len() > self.bids.len() {
             return Err(refusal(11, self.bids.len() + 2));
         }
-        Ok((price, sum == self.demand))
+        Ok((price, self.takes(sum)))
     }
 }
 

@@ -7,6 +7,7 @@ use std::collections::VecDeque;
 
 #[derive(Clone, Debug, PartialEq)]
 pub struct Award {
+    pub bought: i64,
     pub total: i64,
     pub quantities: Vec<i64>,
     pub without: Vec<Option<i64>>,
@@ -15,9 +16,9 @@ pub struct Award {
 /// Above every price; stands where no allocation gives the quantity.
 const NO_WAY: i64 = i64::MAX;
 
-/// The least price of each quantity from no bidder at all.
-fn nobody(demand: i64) -> Vec<i64> {
-    let mut least = vec![NO_WAY; demand as usize + 1];
+/// The least price of each quantity up to the most from no bidder at all.
+fn nobody(most: i64) -> Vec<i64> {
+    let mut least = vec![NO_WAY; most as usize + 1];
     least[0] = 0;
     least
 }
@@ -72,8 +73,8 @@ fn with_bidder(bid: &Bid, rest: &[i64]) -> Vec<i64> {
 }
 
 /// The least prices for the bidders from each one on, the last list for none.
-fn layers(bids: &[Bid], demand: i64) -> Vec<Vec<i64>> {
-    let mut backward = vec![nobody(demand)];
+fn layers(bids: &[Bid], most: i64) -> Vec<Vec<i64>> {
+    let mut backward = vec![nobody(most)];
     for bid in bids.iter().rev() {
         let least = with_bidder(bid, &backward[backward.len() - 1]);
         backward.push(least);
@@ -82,10 +83,16 @@ fn layers(bids: &[Bid], demand: i64) -> Vec<Vec<i64>> {
     backward
 }
 
-/// The least price of the demand, nothing where no allocation meets it.
-fn total<'a>(bids: impl DoubleEndedIterator<Item = &'a Bid>, demand: i64) -> Option<i64> {
-    let least = bids.rev().fold(nobody(demand), |rest, bid| with_bidder(bid, &rest));
-    Some(least[demand as usize]).filter(|&price| price != NO_WAY)
+/// The most blanks that have to be looked at: more are not taken, or not offered.
+fn most(book: &Book) -> i64 {
+    let offered: i64 = book.bids.iter().map(|bid| bid.segments[bid.segments.len() - 1].end).sum();
+    offered.min(book.demand + book.allowance)
+}
+
+/// The least of these prices among the quantities that are taken, and the fewest blanks that have it; nothing where none can be had.
+fn cheapest(book: &Book, least: &[i64]) -> Option<(i64, i64)> {
+    let prices = (0..).zip(least).filter(|&(blanks, &price)| book.takes(blanks) && price != NO_WAY);
+    prices.map(|(blanks, &price)| (price, blanks)).min()
 }
 
 /// The greatest quantity of this bidder with which the least price is still reached.
@@ -104,8 +111,9 @@ fn greatest(bid: &Bid, wanted: i64, price: i64, rest: &[i64]) -> i64 {
     0
 }
 
-fn quantities(bids: &[Bid], demand: i64, layers: &[Vec<i64>]) -> Vec<i64> {
-    let mut wanted = demand;
+/// So many blanks at the least price: the first bidder gets most, then the second, and so on.
+fn quantities(bids: &[Bid], bought: i64, layers: &[Vec<i64>]) -> Vec<i64> {
+    let mut wanted = bought;
     let mut given = Vec::new();
     for (index, bid) in bids.iter().enumerate() {
         let price = layers[index][wanted as usize];
@@ -119,17 +127,15 @@ fn quantities(bids: &[Bid], demand: i64, layers: &[Vec<i64>]) -> Vec<i64> {
 fn total_without(book: &Book, absent: usize) -> Option<i64> {
     let all = book.bids.iter().enumerate();
     let left: Vec<&Bid> = all.filter(|bid| bid.0 != absent).map(|bid| bid.1).collect();
-    total(left.into_iter(), book.demand)
+    let least = left.iter().rev().fold(nobody(most(book)), |rest, bid| with_bidder(bid, &rest));
+    cheapest(book, &least).map(|(total, _)| total)
 }
 
 /// The award of an accepted book, nothing where it is not covered.
 pub fn award(book: &Book) -> Option<Award> {
-    let layers = layers(&book.bids, book.demand);
-    let total = layers[0][book.demand as usize];
-    if total == NO_WAY {
-        return None;
-    }
-    let quantities = quantities(&book.bids, book.demand, &layers);
+    let layers = layers(&book.bids, most(book));
+    let (total, bought) = cheapest(book, &layers[0])?;
+    let quantities = quantities(&book.bids, bought, &layers);
     let without = (0..book.bids.len()).map(|absent| total_without(book, absent));
-    Some(Award { total, quantities, without: without.collect() })
+    Some(Award { bought, total, quantities, without: without.collect() })
 }

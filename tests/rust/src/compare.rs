@@ -21,11 +21,13 @@ pub struct Counts {
     pub texts: u64,
     pub calls: u64,
     pub different: u64,
-    /// Texts that are books, of these the ones cleared, of these the ones with a carriage above 0, and of their totals without a bidder
-    /// the `none`.
+    /// Texts that are books, of these the ones cleared, of these the ones with a carriage above 0, with an allowance above 0 and of which
+    /// more than the demand is bought, and of their totals without a bidder the `none`.
     pub accepted: u64,
     pub cleared: u64,
     pub carried: u64,
+    pub allowed: u64,
+    pub over: u64,
     pub none: u64,
     /// Pages of the product that were read back.
     pub pages: u64,
@@ -139,7 +141,7 @@ impl Comparer {
     fn sampled_well(&mut self, text: &[u8], loaded: &Loaded, answer: &Answer) {
         let number = |bytes: &[u8]| i64::from_ne_bytes(bytes.try_into().expect("eight bytes"));
         let numbers: Vec<i64> = answer.output.chunks_exact(8).map(number).collect();
-        for row in numbers.chunks_exact(7).take(answer.numbers[1] as usize) {
+        for row in numbers.chunks_exact(7).take(answer.numbers[2] as usize) {
             self.counts.samples += 1;
             if !loaded.table().is_ok_and(|table| table.samples_well(row[2], row[4])) {
                 self.different(|| format!("{} of {} sampled by {loaded:?}, the text \"{}\"", row[4], row[2], text.escape_ascii()));
@@ -153,6 +155,8 @@ impl Comparer {
         if let Some((book, award)) = judged.known_award() {
             self.counts.cleared += 1;
             self.counts.carried += u64::from(book.bids.iter().any(|bid| bid.carriage > 0));
+            self.counts.allowed += u64::from(book.allowance > 0);
+            self.counts.over += u64::from(award.bought > book.demand);
             self.counts.none += award.without.iter().filter(|total| total.is_none()).count() as u64;
         }
     }

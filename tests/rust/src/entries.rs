@@ -25,6 +25,7 @@ extern "C" {
         rows: *mut u64,
         rows_length: usize,
         place: *mut u64,
+        bought: *mut u64,
         total: *mut u64,
         count: *mut u64,
     ) -> u64;
@@ -56,6 +57,7 @@ extern "C" {
         rows: *mut u64,
         rows_length: usize,
         place: *mut u64,
+        bought: *mut u64,
         total: *mut u64,
         count: *mut u64,
     ) -> u64;
@@ -107,13 +109,13 @@ impl Call {
     }
 }
 
-/// What a call gives back: the numbers behind pointers besides the place (bytes; price and meets; total and count; 0 where there is
-/// no second), the lent output whole, and whether text, table, quantities and all guards are unchanged.
+/// What a call gives back: the numbers behind pointers besides the place (bytes; price and meets; bought, total and count; 0 where there
+/// is no second or third), the lent output whole, and whether text, table, quantities and all guards are unchanged.
 #[derive(Clone, Debug, PartialEq)]
 pub struct Answer {
     pub refusal: u64,
     pub place: u64,
-    pub numbers: [u64; 2],
+    pub numbers: [u64; 3],
     pub output: Vec<u8>,
     pub rest_unchanged: bool,
 }
@@ -141,7 +143,7 @@ fn bytes_of(numbers: &[u64]) -> Vec<u8> {
 
 const UNSET: u64 = 0xdead_beef_dead_beef;
 const BETWEEN: u64 = 0x5a5a_5a5a_5a5a_5a5a;
-const NUMBERS: [u64; 7] = [BETWEEN, UNSET, BETWEEN, UNSET, BETWEEN, UNSET, BETWEEN];
+const NUMBERS: [u64; 9] = [BETWEEN, UNSET, BETWEEN, UNSET, BETWEEN, UNSET, BETWEEN, UNSET, BETWEEN];
 
 pub struct Entries {
     text: Area,
@@ -172,41 +174,48 @@ impl Entries {
         let output_at = if quantities.is_empty() { output_at } else { quantities_at };
         let mut numbers = NUMBERS;
         let refusal = enter(call, (text_at, text.len()), (table_at, call.table().len()), output_at, &mut numbers);
-        let [low, place, mid, first, next, second, high] = numbers;
-        let second = if takes_one(call) { second.wrapping_sub(UNSET) } else { second };
-        let apart = [low, mid, next, high].iter().all(|&number| number == BETWEEN);
+        let apart = numbers.iter().step_by(2).all(|&number| number == BETWEEN);
+        let [place, mut numbers @ ..] = [numbers[1], numbers[3], numbers[5], numbers[7]];
+        numbers[count_of(call)..].iter_mut().for_each(|number| *number = number.wrapping_sub(UNSET));
         let lent = self.text.content() == text && self.table.content() == call.table() && self.quantities.content() == quantities;
         let areas = [&self.text, &self.table, &self.output, &self.quantities];
         let guards = areas.iter().all(|area| area.guards_unchanged());
         let output = self.output.content().to_vec();
-        Answer { refusal, place, numbers: [first, second], output, rest_unchanged: apart && lent && guards }
+        Answer { refusal, place, numbers, output, rest_unchanged: apart && lent && guards }
     }
 }
 
-fn takes_one(call: &Call) -> bool {
-    !matches!(call, Call::Split(_) | Call::Award(_) | Call::AwardByTable(..))
+/// How many numbers a call sets besides the place.
+fn count_of(call: &Call) -> usize {
+    match call {
+        Call::Award(_) | Call::AwardByTable(..) => 3,
+        Call::Split(_) => 2,
+        _ => 1,
+    }
 }
 
 /// Where a lent text begins, and its length.
 type Text = (*const u8, usize);
 
 /// Calls the entry; `lent` is the output, or the quantities of a split.
-fn enter(call: &Call, (text, length): Text, (table, size): Text, lent: *mut u8, numbers: &mut [u64; 7]) -> u64 {
+fn enter(call: &Call, (text, length): Text, (table, size): Text, lent: *mut u8, numbers: &mut [u64; 9]) -> u64 {
     let numbers = numbers.as_mut_ptr();
     // SAFETY: every pointer is valid for the length beside it, the areas start at pages and 64-bit numbers lie at multiples of 8,
     // and what is written to overlaps nothing else.
     unsafe {
-        let (place, first, second) = (numbers.add(1), numbers.add(3), numbers.add(5));
+        let (place, first, second, third) = (numbers.add(1), numbers.add(3), numbers.add(5), numbers.add(7));
         match call {
             Call::Sheet(bytes) => boccelarch_sheet(text, length, lent, *bytes, place, first),
             Call::Page(bytes) => boccelarch_page(text, length, lent, *bytes, place, first),
             Call::Write(bytes) => boccelarch_write(text, length, lent, *bytes, place, first),
             Call::Room => boccelarch_room(text, length, place, first),
             Call::Split(list) => boccelarch_split(text, length, lent.cast(), list.len(), place, first.cast(), second),
-            Call::Award(rows) => boccelarch_award(text, length, lent.cast(), *rows, place, first, second),
+            Call::Award(rows) => boccelarch_award(text, length, lent.cast(), *rows, place, first, second, third),
             Call::SheetByTable(_, bytes) => boccelarch_sheet_by_table(table, size, text, length, lent, *bytes, place, first),
             Call::PageByTable(_, bytes) => boccelarch_page_by_table(table, size, text, length, lent, *bytes, place, first),
-            Call::AwardByTable(_, rows) => boccelarch_award_by_table(table, size, text, length, lent.cast(), *rows, place, first, second),
+            Call::AwardByTable(_, rows) => {
+                boccelarch_award_by_table(table, size, text, length, lent.cast(), *rows, place, first, second, third)
+            }
             Call::WriteTable(_, bytes) => boccelarch_write_table(table, size, lent, *bytes, place, first),
             Call::PrintedTable(bytes) => boccelarch_printed_table(lent, *bytes, place, first),
         }

@@ -48,7 +48,7 @@ impl Judged {
         let table = table?;
         let (book, award) = self.cleared()?;
         let sheet = sheet::sheet(book, award, table);
-        assert!(sheet.len() <= 600, "600 bytes hold every sheet");
+        assert!(sheet.len() <= 39 + 66 * book.bids.len(), "a sheet has at most 39 bytes and 66 for each bid");
         Ok(sheet)
     }
 
@@ -73,23 +73,23 @@ impl Judged {
 
     pub fn answer(&self, call: &Call) -> Answer {
         match call {
-            Call::Sheet(length) => put_down(self.sheet(), *length, |bytes| [bytes, 0]),
-            Call::Page(length) => put_down(self.page(), *length, |bytes| [bytes, 0]),
-            Call::Write(length) => put_down(self.written(), *length, |bytes| [bytes, 0]),
-            Call::Room => bare(self.book().map(|book| [book.room(), 0])),
+            Call::Sheet(length) => put_down(self.sheet(), *length, |bytes| [bytes, 0, 0]),
+            Call::Page(length) => put_down(self.page(), *length, |bytes| [bytes, 0, 0]),
+            Call::Write(length) => put_down(self.written(), *length, |bytes| [bytes, 0, 0]),
+            Call::Room => bare(self.book().map(|book| [book.room(), 0, 0])),
             Call::Split(list) => bare(self.split(list)),
             Call::Award(length) => self.award_by(Ok(&Table::printed()), *length),
-            Call::SheetByTable(loaded, length) => put_down(self.sheet_by(loaded.table()), *length, |bytes| [bytes, 0]),
-            Call::PageByTable(loaded, length) => put_down(self.page_by(loaded.table()), *length, |bytes| [bytes, 0]),
+            Call::SheetByTable(loaded, length) => put_down(self.sheet_by(loaded.table()), *length, |bytes| [bytes, 0, 0]),
+            Call::PageByTable(loaded, length) => put_down(self.page_by(loaded.table()), *length, |bytes| [bytes, 0, 0]),
             Call::AwardByTable(loaded, length) => self.award_by(loaded.table(), *length),
-            Call::WriteTable(loaded, length) => put_down(loaded.written(), *length, |bytes| [bytes, 0]),
-            Call::PrintedTable(length) => put_down(Ok(Table::printed().written()), *length, |bytes| [bytes, 0]),
+            Call::WriteTable(loaded, length) => put_down(loaded.written(), *length, |bytes| [bytes, 0, 0]),
+            Call::PrintedTable(length) => put_down(Ok(Table::printed().written()), *length, |bytes| [bytes, 0, 0]),
         }
     }
 
-    fn split(&self, list: &[u64]) -> Result<[u64; 2], Refusal> {
+    fn split(&self, list: &[u64]) -> Result<[u64; 3], Refusal> {
         let (price, meets) = self.book()?.split(list)?;
-        Ok([price as u64, u64::from(meets)])
+        Ok([price as u64, u64::from(meets), 0])
     }
 
     fn award_by(&self, table: Result<&Table, Refusal>, length: usize) -> Answer {
@@ -97,18 +97,18 @@ impl Judged {
         let bytes = numbers.map(|all| all.iter().flat_map(|n| n.to_ne_bytes()).collect());
         put_down(bytes, 8 * length, |_| {
             let (book, award) = self.cleared().expect("nothing is refused");
-            [award.total as u64, book.bids.len() as u64]
+            [award.bought as u64, award.total as u64, book.bids.len() as u64]
         })
     }
 }
 
 fn refused(by: Refusal, length: usize) -> Answer {
     let output = pattern(length);
-    Answer { refusal: by.number, place: by.place, numbers: [0, 0], output, rest_unchanged: true }
+    Answer { refusal: by.number, place: by.place, numbers: [0; 3], output, rest_unchanged: true }
 }
 
 /// The answer of a call without an output.
-fn bare(numbers: Result<[u64; 2], Refusal>) -> Answer {
+fn bare(numbers: Result<[u64; 3], Refusal>) -> Answer {
     match numbers {
         Err(by) => refused(by, 0),
         Ok(numbers) => Answer { refusal: 0, place: 0, numbers, output: Vec::new(), rest_unchanged: true },
@@ -116,7 +116,7 @@ fn bare(numbers: Result<[u64; 2], Refusal>) -> Answer {
 }
 
 /// The answer of a call that writes `bytes` to an output of `length` bytes; `numbers` is given how many they are.
-fn put_down(bytes: Result<Vec<u8>, Refusal>, length: usize, numbers: impl Fn(u64) -> [u64; 2]) -> Answer {
+fn put_down(bytes: Result<Vec<u8>, Refusal>, length: usize, numbers: impl Fn(u64) -> [u64; 3]) -> Answer {
     let fitting = bytes.and_then(|bytes| match bytes.len() <= length {
         true => Ok(bytes),
         false => Err(refusal(10, bytes.len())),

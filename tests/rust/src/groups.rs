@@ -1,9 +1,10 @@
 //! The groups of generated texts. Those with tables are in tablegroups.rs.
 
+use crate::cases::CASES;
 use crate::compare::Comparer;
 use crate::entries::Call;
 use crate::expected::Judged;
-use crate::generate::books::{self, Plan};
+use crate::generate::books::{self, Plan, MOST};
 use crate::generate::families::{self, Family};
 use crate::generate::{broken, bytes, calls, limits};
 use crate::random::Random;
@@ -11,8 +12,8 @@ use crate::tablegroups;
 
 pub type Group = (&'static str, fn(&mut Comparer, &mut Random));
 
-pub const GROUPS: [Group; 42] = [
-    ("the paper's book, every demand", paper_book),
+pub const GROUPS: [Group; 46] = [
+    ("the paper's book, every demand, with and without an allowance", paper_book),
     ("small books", small_books),
     ("small books with ties", tied_books),
     ("four to six segments in a bid", books_of_many_segments),
@@ -42,6 +43,10 @@ pub const GROUPS: [Group; 42] = [
     ("hard books: prices near a line", noise),
     ("books in which carriage decides the order", carried),
     ("other carriages, and bids in the old form", carriages),
+    ("cases with an allowance, worked out by hand", allowance_cases),
+    ("starts that pass the demand by the allowance, by one more or by one less", passed),
+    ("hard books: drums", drums),
+    ("other allowances, and demands in the old form", allowances),
     ("the printed table", tablegroups::printed),
     ("tables that pass", tablegroups::passing),
     ("quantities beside the limits of bands", tablegroups::limits_of_bands),
@@ -64,8 +69,8 @@ const PAPER: &str = "(bid 3 0 (seg 1 60 400 0) (seg 61 100 350 -500))
 (bid 12 0 (seg 120 120 370 0))
 ";
 
-fn paper_text(demand: u64) -> Vec<u8> {
-    format!("(demand {demand})\n{PAPER}").into_bytes()
+fn paper_text(demand: u64, allowance: u64) -> Vec<u8> {
+    format!("(demand {demand} {allowance})\n{PAPER}").into_bytes()
 }
 
 fn usual(comparer: &mut Comparer, random: &mut Random, text: &[u8]) {
@@ -74,7 +79,9 @@ fn usual(comparer: &mut Comparer, random: &mut Random, text: &[u8]) {
 
 fn paper_book(comparer: &mut Comparer, random: &mut Random) {
     for demand in 0..=330 {
-        usual(comparer, random, &paper_text(demand));
+        for allowance in [0, 1, 10, 59, 60, 1_000_000] {
+            usual(comparer, random, &paper_text(demand, allowance));
+        }
     }
 }
 
@@ -131,15 +138,16 @@ fn full_books(comparer: &mut Comparer, random: &mut Random) {
 
 fn limits_small(comparer: &mut Comparer, random: &mut Random) {
     for _ in 0..8_000 {
-        let text = limits::book(random, 4, &[1, 2, 3, 4, 7]).written();
+        let text = limits::book(random, 4, &[1, 2, 3, 4, 7], &[0, 0, 1, 2, 5, MOST + 1]).written();
         usual(comparer, random, &text);
     }
 }
 
 fn limits_large(comparer: &mut Comparer, random: &mut Random) {
-    let demands = [999_998, 999_999, 1_000_000, 1_000_000, 500_000, 500_001, 1_000_001];
+    let demands = [999_998, 999_999, MOST, MOST, 500_000, 500_001, MOST + 1, 1, 2];
+    let allowances = [0, 0, 0, 0, 1, 2, 500_000, MOST - 2, MOST - 1, MOST, MOST + 1];
     for _ in 0..500 {
-        let text = limits::book(random, 3, &demands).written();
+        let text = limits::book(random, 3, &demands, &allowances).written();
         usual(comparer, random, &text);
     }
     longest_sheets(comparer, random);
@@ -149,11 +157,15 @@ fn longest_sheets(comparer: &mut Comparer, random: &mut Random) {
     for spare in [-1, 0, 1, 20_000] {
         usual(comparer, random, &limits::longest(spare).written());
     }
+    for allowance in [0, 1, 999_997, 999_998, 999_999, MOST, MOST + 1] {
+        usual(comparer, random, &limits::most_bought(allowance).written());
+    }
 }
 
 fn limits_not_cleared(comparer: &mut Comparer, random: &mut Random) {
     for _ in 0..8_000 {
-        let text = limits::book(random, 8, &[1, 500_000, 1_000_000, 1_000_001, 0]).written();
+        let allowances = [0, 1, 500_000, MOST - 1, MOST, MOST, MOST + 1];
+        let text = limits::book(random, 8, &[1, 500_000, MOST, MOST + 1, 0], &allowances).written();
         comparer.text(&text, |judged| calls::without_clearing(random, judged));
     }
 }
@@ -202,20 +214,21 @@ fn edits_of(comparer: &mut Comparer, random: &mut Random, text: &[u8], values: &
 
 fn edits_all(comparer: &mut Comparer, random: &mut Random) {
     let all: Vec<u8> = (0..=255).collect();
-    edits_of(comparer, random, b"(demand 7)\n(bid 4 0 (seg 2 9 3 -5))\n", &all);
+    edits_of(comparer, random, b"(demand 7 2)\n(bid 4 0 (seg 2 9 3 -5))\n", &all);
 }
 
 fn edits_relevant(comparer: &mut Comparer, random: &mut Random) {
-    let texts: [&[u8]; 4] = [
-        b"(demand 0)\n(bid 0 0 (seg 0 0 0 0))\n",
-        b"(demand 9999999999999)\n(bid 1 0 (seg 1 1000000 1000000 -1000000000000))\n",
-        b"(demand 10)\n(bid 1 0 (seg 1 10 5 0))\n(bid 2 0 (seg 1 10 5 0) (seg 12 20 4 -48))\n",
-        b"(demand 10)\n(bid 1 10000 (seg 1 10 5 0))\n(bid 2 250 (seg 1 10 9755 -9755))\n",
+    let texts: [&[u8]; 5] = [
+        b"(demand 0 0)\n(bid 0 0 (seg 0 0 0 0))\n",
+        b"(demand 9999999999999 9999999999999)\n(bid 1 0 (seg 1 1000000 1000000 -1000000000000))\n",
+        b"(demand 10 0)\n(bid 1 0 (seg 1 10 5 0))\n(bid 2 0 (seg 1 10 5 0) (seg 12 20 4 -48))\n",
+        b"(demand 10 2)\n(bid 1 0 (seg 1 10 5 0))\n(bid 2 0 (seg 1 10 5 0) (seg 12 20 4 -48))\n",
+        b"(demand 10 1)\n(bid 1 10000 (seg 1 10 5 0))\n(bid 2 250 (seg 1 10 9755 -9755))\n",
     ];
     for text in texts {
         edits_of(comparer, random, text, bytes::RELEVANT);
     }
-    edits_of(comparer, random, &paper_text(120), b"09 ()-\nes\xff");
+    edits_of(comparer, random, &paper_text(120, 0), b"09 ()-\nes\xff");
 }
 
 fn edits_several(comparer: &mut Comparer, random: &mut Random) {
@@ -231,8 +244,8 @@ fn beginnings(comparer: &mut Comparer, random: &mut Random) {
         let text = books::book(random, &plan).written();
         beginnings_of(comparer, random, &text);
     }
-    beginnings_of(comparer, random, &paper_text(120));
-    usual(comparer, random, &paper_text(120));
+    beginnings_of(comparer, random, &paper_text(120, 0));
+    usual(comparer, random, &paper_text(120, 0));
 }
 
 /// Without the whole text.
@@ -271,7 +284,7 @@ fn texts_of_length(comparer: &mut Comparer, random: &mut Random, length: usize) 
         one_byte_replaced(comparer, random, &text);
     }
     usual(comparer, random, &vec![b'7'; length]);
-    usual(comparer, random, &[b"(demand 5)\n".as_slice(), &vec![0; length - 11]].concat());
+    usual(comparer, random, &[b"(demand 5 0)\n".as_slice(), &vec![0; length - 13]].concat());
 }
 
 fn one_byte_replaced(comparer: &mut Comparer, random: &mut Random, text: &[u8]) {
@@ -288,8 +301,9 @@ fn lengths_of(comparer: &mut Comparer, text: &[u8]) {
 
 fn every_length(comparer: &mut Comparer, random: &mut Random) {
     for demand in [19, 60, 61, 120, 181, 300, 301, 0] {
-        lengths_of(comparer, &paper_text(demand));
+        lengths_of(comparer, &paper_text(demand, 0));
     }
+    lengths_of(comparer, &paper_text(60, 1));
     lengths_of_books(comparer, random);
     lengths_at_limits(comparer, random);
 }
@@ -303,7 +317,7 @@ fn lengths_of_books(comparer: &mut Comparer, random: &mut Random) {
 
 fn lengths_at_limits(comparer: &mut Comparer, random: &mut Random) {
     for _ in 0..20 {
-        let book = limits::book(random, 4, &[1, 2]);
+        let book = limits::book(random, 4, &[1, 2], &[0, 1]);
         lengths_of(comparer, &book.written());
     }
 }
@@ -312,7 +326,8 @@ fn splits(comparer: &mut Comparer, random: &mut Random) {
     for plan in [books::SMALL, books::USUAL, books::MANY_BIDS] {
         splits_of(comparer, random, &plan);
     }
-    comparer.text(&paper_text(120), paper_splits);
+    comparer.text(&paper_text(120, 0), paper_splits);
+    comparer.text(&paper_text(120, 10), paper_splits);
 }
 
 fn splits_of(comparer: &mut Comparer, random: &mut Random, plan: &Plan) {
@@ -323,8 +338,9 @@ fn splits_of(comparer: &mut Comparer, random: &mut Random, plan: &Plan) {
 }
 
 fn paper_splits(_: &Judged) -> Vec<Call> {
-    let lists = [vec![60, 60, 0], vec![60, 10, 0], vec![100, 20, 0], vec![60, 60], vec![60, 60, 0, 0]];
-    lists.into_iter().map(Call::Split).collect()
+    let met = [vec![60, 60, 0], vec![100, 20, 0], vec![60, 59, 0], vec![60, 61, 0], vec![60, 70, 0], vec![60, 71, 0]];
+    let lists = met.into_iter().chain([vec![60, 10, 0], vec![60, 60], vec![60, 60, 0, 0]]);
+    lists.map(Call::Split).collect()
 }
 
 fn steps(comparer: &mut Comparer, random: &mut Random) {
@@ -368,6 +384,36 @@ fn carriages(comparer: &mut Comparer, random: &mut Random) {
     for _ in 0..15_000 {
         let book = books::book(random, &books::SMALL).written();
         let text = bytes::carriage_replaced(random, &book);
+        usual(comparer, random, &text);
+    }
+}
+
+fn allowance_cases(comparer: &mut Comparer, random: &mut Random) {
+    for case in CASES {
+        usual(comparer, random, case.text.as_bytes());
+        lengths_of(comparer, case.text.as_bytes());
+        comparer.text(case.text.as_bytes(), |judged| calls::many_splits(random, judged));
+    }
+}
+
+fn passed(comparer: &mut Comparer, random: &mut Random) {
+    let plans = [(books::SMALL, 15_000), (books::USUAL, 4_000), (books::MANY_BIDS, 1_000), (books::WIDE, 400), (books::LARGE, 30)];
+    for (plan, count) in plans {
+        for _ in 0..count {
+            let text = books::passed(random, &plan).written();
+            usual(comparer, random, &text);
+        }
+    }
+}
+
+fn drums(comparer: &mut Comparer, random: &mut Random) {
+    family(comparer, random, families::drums);
+}
+
+fn allowances(comparer: &mut Comparer, random: &mut Random) {
+    for _ in 0..12_000 {
+        let book = books::book(random, &books::SMALL).written();
+        let text = bytes::allowance_replaced(random, &book);
         usual(comparer, random, &text);
     }
 }

@@ -10,6 +10,7 @@
 #![deny(warnings)]
 
 mod book;
+mod cases;
 mod clearing;
 mod compare;
 mod entries;
@@ -31,6 +32,8 @@ use table::{Rule, RULES};
 
 const TEXTS_WANTED: usize = 100_000;
 const CARRIED_WANTED: u64 = 50_000;
+const ALLOWED_WANTED: u64 = 50_000;
+const OVER_WANTED: u64 = 10_000;
 const TABLES_WANTED: usize = 40_000;
 const PASSING_WANTED: u64 = 15_000;
 
@@ -91,6 +94,19 @@ fn enough_tables(comparer: &Comparer) -> bool {
     enough
 }
 
+/// Enough cleared books with a carriage, with an allowance, and of which more than the demand is bought.
+fn enough_cleared(comparer: &Comparer) -> bool {
+    let Counts { accepted, cleared, carried, allowed, over, none, .. } = comparer.counts;
+    println!("{accepted} accepted, {cleared} cleared, {carried} of these with a carriage above 0, {none} totals `none`");
+    println!("{allowed} of the cleared with an allowance above 0, {over} of which more than the demand is bought");
+    let enough = carried >= CARRIED_WANTED && allowed >= ALLOWED_WANTED && over >= OVER_WANTED;
+    if !enough {
+        println!("FAILED: fewer cleared books than {CARRIED_WANTED} with a carriage above 0, {ALLOWED_WANTED} with an allowance above 0");
+        println!("or {OVER_WANTED} of which more than the demand is bought");
+    }
+    enough
+}
+
 fn main() -> ExitCode {
     let mut good = selftest::run();
     if std::env::args().any(|argument| argument == "--self-test") {
@@ -109,13 +125,7 @@ fn main() -> ExitCode {
         good = false;
     }
     let counts = comparer.counts;
-    let Counts { accepted, cleared, carried, none, .. } = counts;
-    println!("{accepted} accepted, {cleared} cleared, {carried} of these with a carriage above 0, {none} totals `none`");
-    if carried < CARRIED_WANTED {
-        println!("FAILED: fewer than {CARRIED_WANTED} cleared books with a carriage above 0");
-        good = false;
-    }
-    good &= every_fault(&comparer) & enough_tables(&comparer);
+    good &= enough_cleared(&comparer) & every_fault(&comparer) & enough_tables(&comparer);
     println!("{} texts, {} calls compared, {} pages read back, {} different", counts.texts, counts.calls, counts.pages, counts.different);
     println!("{} passed, {} failed", counts.calls + counts.pages + counts.samples - counts.different, counts.different);
     ExitCode::from(u8::from(!good || counts.different > 0))

@@ -19,13 +19,13 @@ fn line(row: &Row) -> String {
 
 pub fn page(book: &Book, award: &Award, table: &Table) -> Vec<u8> {
     let lines: String = sheet::rows(book, award, table).iter().map(line).collect();
-    format!("{:>20}{:>44}\n{lines}", book.demand, money(award.total)).into_bytes()
+    format!("{:>20}{:>20}{:>24}\n{lines}", book.demand, award.bought, money(award.total)).into_bytes()
 }
 
 /// How wide a column is, and whether money stands in it.
 type Column = (usize, bool);
 
-const FIRST_LINE: [Column; 2] = [(20, false), (44, true)];
+const FIRST_LINE: [Column; 3] = [(20, false), (20, false), (24, true)];
 const BID_LINE: [Column; 6] = [(6, false), (4, false), (10, false), (20, true), (6, false), (18, true)];
 
 /// What the columns show, line by line, as `sheet::shown` has it: money in cents. Nothing where they cannot be read.

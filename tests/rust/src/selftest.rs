@@ -1,7 +1,9 @@
-//! The check of the reference and of the comparison: the reference against what the paper prints, against cases with carriage and with
-//! tables that were worked out by hand and against a listing of all divisions, and the comparison against answers that were altered.
+//! The check of the reference and of the comparison: the reference against what the paper prints, against cases with carriage, with an
+//! allowance and with tables that were worked out by hand and against a listing of all divisions, and the comparison against answers that
+//! were altered.
 
 use crate::book::{refusal, Bid, Book, Refusal};
+use crate::cases::{Case, CASES};
 use crate::clearing;
 use crate::compare::Comparer;
 use crate::entries::{Answer, Call};
@@ -12,6 +14,7 @@ use crate::random::Random;
 use crate::shape::Shape;
 use crate::sheet;
 use crate::table::{Loaded, Table};
+use std::cmp::Reverse;
 use std::rc::Rc;
 
 const BIDS: &str = "(bid 3 0 (seg 1 60 400 0) (seg 61 100 350 -500))
@@ -19,7 +22,7 @@ const BIDS: &str = "(bid 3 0 (seg 1 60 400 0) (seg 61 100 350 -500))
 (bid 12 0 (seg 120 120 370 0))
 ";
 
-const SHEET: &str = "(award 120 43100)
+const SHEET: &str = "(award 120 120 43100)
 (buy 3 2 100 34500 20 (without 44400))
 (buy 8 1 20 8600 5 (without 44400))
 (buy 12 0 0 0 0 (without 43100))
@@ -27,7 +30,7 @@ const SHEET: &str = "(award 120 43100)
 
 /// The page of the same award, written by hand.
 const PAGE: &str = concat!(
-    "                 120                                      431.00\n",
+    "                 120                 120                  431.00\n",
     "     3   2       100              345.00    20            444.00\n",
     "     8   1        20               86.00     5            444.00\n",
     "    12   0         0                0.00     0            431.00\n",
@@ -35,23 +38,43 @@ const PAGE: &str = concat!(
 
 /// The paper's book with carriages. With the first two bidders 120 blanks cost 250 × q + 49,000 where the first sells q from 40 to 60, and
 /// 200 × q + 48,500 from 61 to 100: least 59,000 with 40 and 80. The third sells them for 520 × 120 = 62,400.
-const CARRIED: &str = "(demand 120)
+const CARRIED: &str = "(demand 120 0)
 (bid 3 250 (seg 1 60 400 0) (seg 61 100 350 -500))
 (bid 8 20 (seg 20 80 380 1000))
 (bid 12 150 (seg 120 120 370 0))
 ";
 
-const CARRIED_SHEET: &str = "(award 120 59000)
+const CARRIED_SHEET: &str = "(award 120 120 59000)
 (buy 3 1 40 26000 8 (without 62400))
 (buy 8 1 80 33000 13 (without 62400))
 (buy 12 0 0 0 0 (without 59000))
 ";
 
 const CARRIED_PAGE: &str = concat!(
-    "                 120                                      590.00\n",
+    "                 120                 120                  590.00\n",
     "     3   1        40              260.00     8            624.00\n",
     "     8   1        80              330.00    13            624.00\n",
     "    12   0         0                0.00     0            590.00\n",
+);
+
+/// The paper's book with an allowance, and a drum of 125 blanks, which costs 42,500: the first two bidders sell 120 blanks for 43,100.
+const DRUMS: &str = "(demand 120 10)
+(bid 3 0 (seg 1 60 400 0) (seg 61 100 350 -500))
+(bid 8 0 (seg 20 80 380 1000))
+(bid 12 0 (seg 125 125 340 0))
+";
+
+const DRUMS_SHEET: &str = "(award 120 125 42500)
+(buy 3 0 0 0 0 (without 42500))
+(buy 8 0 0 0 0 (without 42500))
+(buy 12 1 125 42500 20 (without 43100))
+";
+
+const DRUMS_PAGE: &str = concat!(
+    "                 120                 125                  425.00\n",
+    "     3   0         0                0.00     0            425.00\n",
+    "     8   0         0                0.00     0            425.00\n",
+    "    12   1       125              425.00    20            431.00\n",
 );
 
 /// The checks done, and those that failed.
@@ -90,37 +113,37 @@ fn paper_awards(checks: &mut Checks, shape: &Shape) {
         (300, [100, 80, 120], 110_300),
     ];
     for (demand, quantities, total) in cases {
-        let case = judged(shape, &format!("(demand {demand})\n{BIDS}"));
+        let case = judged(shape, &format!("(demand {demand} 0)\n{BIDS}"));
         let award = case.cleared().map(|cleared| cleared.1.clone());
-        let same = award.is_ok_and(|a| a.quantities == quantities && a.total == total);
+        let same = award.is_ok_and(|a| a.quantities == quantities && a.total == total && a.bought == demand);
         checks.check(&format!("the paper's demand {demand}"), same);
     }
-    let sheet = judged(shape, &format!("(demand 120)\n{BIDS}")).sheet();
+    let sheet = judged(shape, &format!("(demand 120 0)\n{BIDS}")).sheet();
     checks.check("the paper's sheet", sheet == Ok(SHEET.as_bytes().to_vec()));
-    let uncovered = judged(shape, &format!("(demand 301)\n{BIDS}")).sheet();
+    let uncovered = judged(shape, &format!("(demand 301 0)\n{BIDS}")).sheet();
     checks.check("the paper's demand 301", uncovered == Err(refusal(9, 0)));
-    let alone = judged(shape, "(demand 119)\n(bid 12 0 (seg 120 120 370 0))\n").sheet();
+    let alone = judged(shape, "(demand 119 0)\n(bid 12 0 (seg 120 120 370 0))\n").sheet();
     checks.check("bidder 12 alone", alone == Err(refusal(9, 0)));
-    let pair = judged(shape, "(demand 10)\n(bid 1 0 (seg 1 10 5 0))\n(bid 2 0 (seg 1 10 5 0))\n");
+    let pair = judged(shape, "(demand 10 0)\n(bid 1 0 (seg 1 10 5 0))\n(bid 2 0 (seg 1 10 5 0))\n");
     let award = pair.cleared().map(|cleared| cleared.1.clone());
     checks.check("two alike", award.is_ok_and(|a| a.quantities == [10, 0] && a.total == 50));
 }
 
 /// The page of the paper's book, and one with five cents and `none`.
 fn pages(checks: &mut Checks, shape: &Shape) {
-    let paper = judged(shape, &format!("(demand 120)\n{BIDS}")).page();
+    let paper = judged(shape, &format!("(demand 120 0)\n{BIDS}")).page();
     checks.check("the paper's page", paper == Ok(PAGE.as_bytes().to_vec()));
-    let uncovered = judged(shape, &format!("(demand 301)\n{BIDS}")).page();
+    let uncovered = judged(shape, &format!("(demand 301 0)\n{BIDS}")).page();
     checks.check("no page for the paper's demand 301", uncovered == Err(refusal(9, 0)));
-    let alone = judged(shape, "(demand 1)\n(bid 4 0 (seg 1 1 5 0))\n").page();
-    let first = "                   1                                        0.05\n";
+    let alone = judged(shape, "(demand 1 0)\n(bid 4 0 (seg 1 1 5 0))\n").page();
+    let first = "                   1                   1                    0.05\n";
     let bid = "     4   1         1                0.05     1              none\n";
     checks.check("a page with five cents and `none`", alone == Ok(format!("{first}{bid}").into_bytes()));
 }
 
 /// The columns of the paper's page are the numbers of its sheet, and with any byte altered they are not.
 fn columns(checks: &mut Checks) {
-    let numbers = [120, 43_100, 3, 2, 100, 34_500, 20, 44_400, 8, 1, 20, 8_600, 5, 44_400, 12, 0, 0, 0, 0, 43_100];
+    let numbers = [120, 120, 43_100, 3, 2, 100, 34_500, 20, 44_400, 8, 1, 20, 8_600, 5, 44_400, 12, 0, 0, 0, 0, 43_100];
     let all: Vec<Option<i64>> = numbers.into_iter().map(Some).collect();
     checks.check("the numbers of the paper's sheet", sheet::shown(SHEET.as_bytes()) == all);
     checks.check("the columns of the paper's page", page::shown(PAGE.as_bytes()) == Some(all.clone()));
@@ -134,21 +157,21 @@ fn paper_refusals(checks: &mut Checks, shape: &Shape) {
     let cases = [
         ("", Some(refusal(2, 0))),
         ("(demand 05)", Some(refusal(2, 9))),
-        ("(demand 0)\n(bid 3 0 (seg 1 60 400 0))\n", Some(refusal(5, 1))),
-        ("(demand 70)\n(bid 3 0 (seg 61 100 350 -21350))\n", None),
-        ("(demand 70)\n(bid 3 0 (seg 61 100 350 -21351))\n", Some(refusal(8, 2))),
-        ("(demand 70)\n(bid 8 0 (seg 1 9 1 0))\n(bid 8 0 (seg 1 9 1 0))\n", Some(refusal(6, 3))),
-        ("(demand 70)\n(bid 3 0 (seg 1 60 400 0) (seg 60 100 350 0))\n", Some(refusal(7, 2))),
+        ("(demand 0 0)\n(bid 3 0 (seg 1 60 400 0))\n", Some(refusal(5, 1))),
+        ("(demand 70 0)\n(bid 3 0 (seg 61 100 350 -21350))\n", None),
+        ("(demand 70 0)\n(bid 3 0 (seg 61 100 350 -21351))\n", Some(refusal(8, 2))),
+        ("(demand 70 0)\n(bid 8 0 (seg 1 9 1 0))\n(bid 8 0 (seg 1 9 1 0))\n", Some(refusal(6, 3))),
+        ("(demand 70 0)\n(bid 3 0 (seg 1 60 400 0) (seg 60 100 350 0))\n", Some(refusal(7, 2))),
     ];
     for (text, expected) in cases {
         checks.check(text, read(shape, text) == expected);
     }
-    let Ok(book) = judged(shape, &format!("(demand 120)\n{BIDS}")).reading else {
+    let Ok(book) = judged(shape, &format!("(demand 120 0)\n{BIDS}")).reading else {
         return checks.check("the paper's book is accepted", false);
     };
     checks.check("split 60, 60, 0", book.split(&[60, 60, 0]) == Ok((47_800, true)));
     checks.check("split 60, 10, 0", book.split(&[60, 10, 0]) == Err(refusal(11, 3)));
-    checks.check("room of the paper's book", book.room() == 17 + 3 * 17 + 4 * 45);
+    checks.check("room of the paper's book", book.room() == 25 + 3 * 17 + 4 * 45);
 }
 
 /// Quantities, total and totals without each bidder.
@@ -167,12 +190,12 @@ fn carriage_decides(checks: &mut Checks, shape: &Shape) {
         (5, ([0, 10], 1_040, [Some(1_040), Some(1_050)])),
     ];
     for (carriage, given) in who_sells {
-        let text = format!("(demand 10)\n(bid 1 {carriage} (seg 1 10 100 0))\n(bid 2 0 (seg 1 10 104 0))\n");
+        let text = format!("(demand 10 0)\n(bid 1 {carriage} (seg 1 10 100 0))\n(bid 2 0 (seg 1 10 104 0))\n");
         checks.check(&text, gives(shape, &text, given));
     }
     let who_gets_more = [(30, ([10, 5], 2_000, [None; 2])), (40, ([10, 5], 2_100, [None; 2])), (50, ([5, 10], 2_150, [None; 2]))];
     for (carriage, given) in who_gets_more {
-        let text = format!("(demand 15)\n(bid 1 {carriage} (seg 5 10 100 0))\n(bid 2 0 (seg 5 10 140 0))\n");
+        let text = format!("(demand 15 0)\n(bid 1 {carriage} (seg 5 10 100 0))\n(bid 2 0 (seg 5 10 140 0))\n");
         checks.check(&text, gives(shape, &text, given));
     }
 }
@@ -191,23 +214,23 @@ fn carried_book(checks: &mut Checks, shape: &Shape) {
         checks.check("a split with carriages", book.split(&quantities) == Ok((price, meets)));
     }
     checks.check("nothing is carried for nothing", book.split(&[0, 0, 0]) == Ok((0, false)));
-    checks.check("room of the book with carriages", book.room() == 17 + 3 * 17 + 4 * 45);
+    checks.check("room of the book with carriages", book.room() == 25 + 3 * 17 + 4 * 45);
 }
 
 /// The highest price, (1,000,000 + 10,000) × 1,000,000 + 1,000,000,000,000, and the longest line, which fills the room figure.
 fn carriage_at_limits(checks: &mut Checks, shape: &Shape) {
-    let text = "(demand 1000000)\n(bid 9999 10000 (seg 1000000 1000000 1000000 1000000000000))\n";
-    let sheet = "(award 1000000 2010000000000)\n(buy 9999 1 1000000 2010000000000 1250 (without none))\n";
-    let first = "             1000000                              20100000000.00\n";
+    let text = "(demand 1000000 0)\n(bid 9999 10000 (seg 1000000 1000000 1000000 1000000000000))\n";
+    let sheet = "(award 1000000 1000000 2010000000000)\n(buy 9999 1 1000000 2010000000000 1250 (without none))\n";
+    let first = "             1000000             1000000          20100000000.00\n";
     let bid = "  9999   1   1000000      20100000000.00  1250              none\n";
     let highest = judged(shape, text);
     checks.check("the sheet of the highest price", highest.sheet() == Ok(sheet.as_bytes().to_vec()));
     checks.check("the page of the highest price", highest.page() == Ok(format!("{first}{bid}").into_bytes()));
     let split = highest.reading.map(|book| book.split(&[1_000_000]));
     checks.check("the highest price of a split", split == Ok(Ok((2_010_000_000_000, true))));
-    let longest = "(demand 1000000)\n(bid 9999 10000 (seg 1000000 1000000 1000000 -1000000000000))\n";
+    let longest = "(demand 1000000 1000000)\n(bid 9999 10000 (seg 1000000 1000000 1000000 -1000000000000))\n";
     let room = judged(shape, longest).reading.map(|book| book.room());
-    checks.check("the room of the longest line", room == Ok(longest.len() as u64) && longest.len() == 79);
+    checks.check("the room of the longest line", room == Ok(longest.len() as u64) && longest.len() == 87);
 }
 
 /// Carriages in and out of range, the order of refusals in a line, and rule 8, which looks at the curve without carriage.
@@ -230,40 +253,92 @@ fn carriage_refusals(checks: &mut Checks, shape: &Shape) {
         ("(bid 3 1 (seg 1 9 0 -1))\n".to_string(), Some(refusal(8, 2))),
     ];
     for (bids, expected) in cases {
-        let text = format!("(demand 9)\n{bids}");
+        let text = format!("(demand 9 0)\n{bids}");
         checks.check(&text, read(shape, &text) == expected);
     }
+}
+
+fn as_given(shape: &Shape, case: &Case) -> bool {
+    let judged = judged(shape, case.text);
+    match (judged.cleared(), &case.given) {
+        (Err(refused), Err(given)) => refused == *given,
+        (Ok((_, award)), Ok(given)) => {
+            let numbers = award.bought == given.bought && award.total == given.total;
+            numbers && award.quantities == given.quantities && award.without == given.without
+        }
+        _ => false,
+    }
+}
+
+/// The cases with an allowance; the paper's book with one, whole, and its splits.
+fn allowance_cases(checks: &mut Checks, shape: &Shape) {
+    for case in &CASES {
+        checks.check(case.name, as_given(shape, case));
+    }
+    let drums = judged(shape, DRUMS);
+    checks.check("the sheet with a drum", drums.sheet() == Ok(DRUMS_SHEET.as_bytes().to_vec()));
+    checks.check("the page with a drum", drums.page() == Ok(DRUMS_PAGE.as_bytes().to_vec()));
+    checks.check("the book with an allowance written again", drums.written() == Ok(DRUMS.as_bytes().to_vec()));
+    let Ok(book) = drums.reading else {
+        return checks.check("the book with an allowance is accepted", false);
+    };
+    let splits = [
+        ([60, 59, 0], 47_420, false),
+        ([60, 60, 0], 47_800, true),
+        ([60, 70, 0], 51_600, true),
+        ([60, 71, 0], 51_980, false),
+        ([0, 0, 125], 42_500, true),
+        ([0, 20, 125], 51_100, false),
+    ];
+    for (quantities, price, meets) in splits {
+        checks.check("a split with an allowance", book.split(&quantities) == Ok((price, meets)));
+    }
+    let paper = judged(shape, &format!("(demand 120 10)\n{BIDS}"));
+    let sheet = paper.sheet();
+    checks.check("an allowance that nothing is bought by", sheet == Ok(SHEET.as_bytes().to_vec()));
 }
 
 /// Places of refusal 2 counted by hand: the text up to `|` is the longest possible beginning.
 fn places(checks: &mut Checks, shape: &Shape) {
     let texts = [
-        "(demand |-5)\n",
-        "(demand 1234567890123|4)\n",
-        "(demand 5)\n|",
-        "(demand 5)\n|\n",
-        "(demand 5)\n(bid 3|)\n",
-        "(demand 5)\n(bid 3 |)\n",
-        "(demand 5)\n(bid 3 0|)\n",
-        "(demand 5)\n(bid 3 |",
-        "(demand 5)\n(bid 3 |(seg 1 5 1 0))\n",
-        "(demand 5)\n(bid 3 0 (seg 1 5 1 0))\n(bid 4 |(seg 1 5 1 0))\n",
-        "(demand 5)\n(bid 3 |-1 (seg 1 5 1 0))\n",
-        "(demand 5)\n(bid 3 0|7 (seg 1 5 1 0))\n",
-        "(demand 5)\n(bid 3 1234567890123|4 (seg 1 5 1 0))\n",
-        "(demand 5)\n(bid 3 | 7 (seg 1 5 1 0))\n",
-        "(demand 5)\n(bid 3 7 | (seg 1 5 1 0))\n",
-        "(demand 5)\n(bid 3 7 |8 (seg 1 5 1 0))\n",
-        "(demand 5)\n(bid 3 7|(seg 1 5 1 0))\n",
-        "(demand 5)\n(bid 3 0 (seg 1 5 |-1 0))\n",
-        "(demand 5)\n(bid 3 0 (seg 1 5 1 -|0))\n",
-        "(demand 5)\n(bid 3 0 (seg 1 5 1 0|0))\n",
-        "(demand 5)\n(bid 3 0 (seg 1 5 1 -1234567890123|4))\n",
-        "(demand 5)\n(bid 3 0 (seg 1 5 1 0))\n|)",
-        "(demand 5)\n(bid 3 0 (seg 1 5 1 0))\n(|demand 5)\n",
-        "(demand 5)\n(bid 3 0 (seg 1 5 1 0))| \n",
+        "(demand |-5 0)\n",
+        "(demand 1234567890123|4 0)\n",
+        "(demand 5|)\n(bid 3 0 (seg 1 5 1 0))\n",
+        "(demand 1234567890123|)\n(bid 3 0 (seg 1 5 1 0))\n",
+        "(demand 5|\n",
+        "(demand 5 |",
+        "(demand 5 |)\n",
+        "(demand 5 | 0)\n",
+        "(demand 5 |-1)\n",
+        "(demand 5 0|7)\n",
+        "(demand 5 1234567890123|4)\n",
+        "(demand 5 7| )\n",
+        "(demand 5 7| 8)\n",
+        "(demand 5 7)|(bid",
+        "(demand 5 0)\n|",
+        "(demand 5 0)\n|\n",
+        "(demand 5 0)\n(bid 3|)\n",
+        "(demand 5 0)\n(bid 3 |)\n",
+        "(demand 5 0)\n(bid 3 0|)\n",
+        "(demand 5 0)\n(bid 3 |",
+        "(demand 5 0)\n(bid 3 |(seg 1 5 1 0))\n",
+        "(demand 5 0)\n(bid 3 0 (seg 1 5 1 0))\n(bid 4 |(seg 1 5 1 0))\n",
+        "(demand 5 0)\n(bid 3 |-1 (seg 1 5 1 0))\n",
+        "(demand 5 0)\n(bid 3 0|7 (seg 1 5 1 0))\n",
+        "(demand 5 0)\n(bid 3 1234567890123|4 (seg 1 5 1 0))\n",
+        "(demand 5 0)\n(bid 3 | 7 (seg 1 5 1 0))\n",
+        "(demand 5 0)\n(bid 3 7 | (seg 1 5 1 0))\n",
+        "(demand 5 0)\n(bid 3 7 |8 (seg 1 5 1 0))\n",
+        "(demand 5 0)\n(bid 3 7|(seg 1 5 1 0))\n",
+        "(demand 5 0)\n(bid 3 0 (seg 1 5 |-1 0))\n",
+        "(demand 5 0)\n(bid 3 0 (seg 1 5 1 -|0))\n",
+        "(demand 5 0)\n(bid 3 0 (seg 1 5 1 0|0))\n",
+        "(demand 5 0)\n(bid 3 0 (seg 1 5 1 -1234567890123|4))\n",
+        "(demand 5 0)\n(bid 3 0 (seg 1 5 1 0))\n|)",
+        "(demand 5 0)\n(bid 3 0 (seg 1 5 1 0))\n(|demand 5 0)\n",
+        "(demand 5 0)\n(bid 3 0 (seg 1 5 1 0))| \n",
         "|Demand",
-        "(demand 5)\n(bid 3 0 (seg 1 5 1 0)|\r)\n",
+        "(demand 5 0)\n(bid 3 0 (seg 1 5 1 0)|\r)\n",
     ];
     for text in texts {
         let place = text.find('|').expect("a marked place");
@@ -364,7 +439,7 @@ fn table_places(checks: &mut Checks, shape: &Shape) {
 
 /// The paper's book and the longest sheet by other tables.
 fn sheets_by_table(checks: &mut Checks, shape: &Shape, table_shape: &Shape) {
-    let paper = judged(shape, &format!("(demand 120)\n{BIDS}"));
+    let paper = judged(shape, &format!("(demand 120 0)\n{BIDS}"));
     let cases = [
         (PRINTED, 20, 5),
         ("(band 1000000 1)\n", 1, 1),
@@ -380,7 +455,7 @@ fn sheets_by_table(checks: &mut Checks, shape: &Shape, table_shape: &Shape) {
     }
     let widest = Table::of(&[(99_998, 1), (1_000_000, 99_999)]);
     let longest = Judged::new(shape, &limits::longest(20_000).written()).sheet_by(Ok(&widest));
-    checks.check("the longest sheet", longest.is_ok_and(|sheet| (520..=600).contains(&sheet.len())));
+    checks.check("the longest sheet", longest.is_ok_and(|sheet| (528..=567).contains(&sheet.len())));
     let first = paper.sheet_by(Err(refusal(12, 3)));
     checks.check("the table's refusal", first == Err(refusal(12, 3)));
     let both = judged(shape, "(demand").sheet_by(Err(refusal(12, 3)));
@@ -408,27 +483,39 @@ fn table_laws(checks: &mut Checks, shape: &Shape) {
 /// A price and the quantities that have it.
 type Division = (i64, Vec<i64>);
 
-/// Every division of the demand, in any order.
-fn divisions(bids: &[Bid], demand: i64) -> Vec<Division> {
-    let Some((last, before)) = bids.split_last() else {
-        return if demand == 0 { vec![(0, Vec::new())] } else { Vec::new() };
-    };
-    (0..=demand).flat_map(|quantity| divisions_with(last, quantity, before, demand)).collect()
+/// Every allocation of at most so many blanks, in any order.
+fn allocations(bids: &[Bid], most: i64) -> Vec<Division> {
+    let Some((last, before)) = bids.split_last() else { return vec![(0, Vec::new())] };
+    (0..=most).flat_map(|quantity| allocations_with(last, quantity, before, most)).collect()
 }
 
 /// Those in which the last bidder sells this quantity.
-fn divisions_with(last: &Bid, quantity: i64, before: &[Bid], demand: i64) -> Vec<Division> {
+fn allocations_with(last: &Bid, quantity: i64, before: &[Bid], most: i64) -> Vec<Division> {
     let Some(price) = last.price(quantity) else { return Vec::new() };
     let with_last = |(others, mut quantities): Division| {
         quantities.push(quantity);
         (price + others, quantities)
     };
-    divisions(before, demand - quantity).into_iter().map(with_last).collect()
+    allocations(before, most - quantity).into_iter().map(with_last).collect()
 }
 
-/// Whether `other` costs more than `best`, or the same and gives less to the first bidder at whom they differ.
+fn blanks(division: &Division) -> i64 {
+    division.1.iter().sum()
+}
+
+/// Every division: the allocations that add up to at least the demand and at most demand and allowance.
+fn divisions(book: &Book) -> Vec<Division> {
+    let most = book.demand + book.allowance;
+    let all = allocations(&book.bids, most).into_iter();
+    all.filter(|division| book.demand <= blanks(division) && blanks(division) <= most).collect()
+}
+
+/// Whether `other` costs more than `best`; or the same, and has more blanks; or as many, and gives less to the first bidder at whom they
+/// differ.
 fn worse(other: &Division, best: &Division) -> bool {
-    other.0 > best.0 || (other.0 == best.0 && other.1 < best.1)
+    let (cost, best_cost) = (other.0, best.0);
+    let (count, best_count) = (blanks(other), blanks(best));
+    cost > best_cost || (cost == best_cost && (count > best_count || (count == best_count && other.1 < best.1)))
 }
 
 fn listed_well(book: &Book, all: &[Division]) -> bool {
@@ -436,11 +523,25 @@ fn listed_well(book: &Book, all: &[Division]) -> bool {
     let best = (award.total, award.quantities);
     let first = all.contains(&best) && all.iter().all(|d| *d == best || worse(d, &best));
     let without = |absent: usize| {
-        let mut left = book.bids.clone();
-        left.remove(absent);
-        divisions(&left, book.demand).iter().map(|division| division.0).min()
+        let mut left = book.clone();
+        left.bids.remove(absent);
+        divisions(&left).iter().map(|division| division.0).min()
     };
-    first && (0..book.bids.len()).all(|absent| award.without[absent] == without(absent))
+    first && award.bought == blanks(&best) && (0..book.bids.len()).all(|absent| award.without[absent] == without(absent))
+}
+
+/// The cheapest division, by the earlier rule alone: of equals the one that gives most to the first bidder at whom two differ.
+fn by_book_order(all: &[Division]) -> Option<&Division> {
+    all.iter().min_by_key(|division| (division.0, Reverse(&division.1)))
+}
+
+/// Whether with the allowance 0 the award is that of before: of the allocations that are just the demand, the first by the earlier rule.
+fn as_before(book: &Book) -> bool {
+    let exact = Book { allowance: 0, ..book.clone() };
+    let all = allocations(&book.bids, book.demand);
+    let all: Vec<Division> = all.into_iter().filter(|division| blanks(division) == book.demand).collect();
+    let award = clearing::award(&exact).map(|award| (award.total, award.quantities));
+    award.as_ref() == by_book_order(&all)
 }
 
 /// Whether several divisions cost the least.
@@ -456,33 +557,47 @@ fn decided_by_carriage(book: &Book) -> bool {
     clearing::award(book).map(|award| award.quantities) != clearing::award(&without).map(|award| award.quantities)
 }
 
+/// Whether by the earlier rule alone another of the cheapest divisions, with more blanks, would be the award.
+fn decided_by_blanks(book: &Book, all: &[Division]) -> bool {
+    clearing::award(book).map(|award| award.quantities).as_ref() != by_book_order(all).map(|division| &division.1)
+}
+
 fn listings(checks: &mut Checks) {
     let mut random = Random::new(71);
-    let (mut ties, mut decided) = (0, 0);
-    for turn in 0..6_000 {
-        let mut book = match turn % 3 {
+    let (mut ties, mut decided, mut over, mut fewer) = (0, 0, 0, 0);
+    for turn in 0..8_000 {
+        let mut book = match turn % 4 {
             0 => books::book(&mut random, &books::SMALL),
             1 => books::tied(&mut random, &books::SMALL),
-            _ => families::ALL[turn / 3 % families::ALL.len()](&mut random, &families::SMALL),
+            2 => books::passed(&mut random, &books::SMALL),
+            _ => families::ALL[turn / 4 % families::ALL.len()](&mut random, &families::SMALL),
         };
         book.demand = book.demand.min(24);
-        let all = divisions(&book.bids, book.demand);
+        book.allowance = book.allowance.min(8);
+        let all = divisions(&book);
         ties += u64::from(tied(&all));
+        over += u64::from(clearing::award(&book).is_some_and(|award| award.bought > book.demand));
+        fewer += u64::from(decided_by_blanks(&book, &all));
         decided += u64::from(decided_by_carriage(&book));
         checks.check("a small book by listing all divisions", listed_well(&book, &all));
+        checks.check("a small book with the allowance 0", as_before(&book));
     }
-    println!("self-test: 6000 small books listed, {ties} of them with several cheapest divisions, {decided} decided by carriage");
+    println!("self-test: 8000 small books listed, {ties} of them with several cheapest divisions, {decided} decided by carriage");
+    println!("self-test: {over} of them with more than the demand bought, {fewer} decided by fewest blanks");
     checks.check("ties among the small books", ties > 500);
+    checks.check("small books with more than the demand bought", over > 500);
+    checks.check("small books decided by fewest blanks", fewer > 300);
     checks.check("small books decided by carriage", decided > 500);
 }
 
 type Alteration = fn(&mut Answer);
 
-const ALTERATIONS: [Alteration; 7] = [
+const ALTERATIONS: [Alteration; 8] = [
     |answer| answer.refusal += 1,
     |answer| answer.place += 1,
     |answer| answer.numbers[0] += 1,
     |answer| answer.numbers[1] += 1,
+    |answer| answer.numbers[2] += 1,
     |answer| answer.rest_unchanged = false,
     |answer| answer.output.iter_mut().take(1).for_each(|byte| *byte ^= 1),
     |answer| answer.output.iter_mut().last().into_iter().for_each(|byte| *byte ^= 128),
@@ -491,9 +606,9 @@ const ALTERATIONS: [Alteration; 7] = [
 /// Every altered answer must be counted as a difference, and an answer left as it was must not.
 fn alterations(checks: &mut Checks) {
     let mut comparer = Comparer::silent();
-    let accepted = format!("(demand 120)\n{BIDS}");
-    let refused = ["(demand 0)\n(bid 3 0 (seg 1 60 400 0))\n", "(demand", "(demand 301)\n(bid 3 0 (seg 1 9 1 0))\n"];
-    for text in [accepted.as_str(), CARRIED].into_iter().chain(refused) {
+    let accepted = format!("(demand 120 0)\n{BIDS}");
+    let refused = ["(demand 0 0)\n(bid 3 0 (seg 1 60 400 0))\n", "(demand", "(demand 301 0)\n(bid 3 0 (seg 1 9 1 0))\n"];
+    for text in [accepted.as_str(), CARRIED, DRUMS].into_iter().chain(refused) {
         alter_text(checks, &mut comparer, text);
         for table in ["(band 19 1)\n(band 99 2)\n(band 1000000 100)\n", "(band 1 2)\n", "(band"] {
             alter_by_table(checks, &mut comparer, text, table);
@@ -544,6 +659,7 @@ pub fn run() -> bool {
     carried_book(&mut checks, &shape);
     carriage_at_limits(&mut checks, &shape);
     carriage_refusals(&mut checks, &shape);
+    allowance_cases(&mut checks, &shape);
     places(&mut checks, &shape);
     table_refusals(&mut checks, &table_shape);
     table_places(&mut checks, &table_shape);

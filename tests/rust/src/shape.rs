@@ -44,7 +44,7 @@ fn bid() -> Part {
 
 fn book() -> Part {
     let bids = Repeated(Box::new(bid()));
-    Row(vec![Word("(demand "), number(), Word(")\n"), bids])
+    Row(vec![Word("(demand "), number(), Word(" "), number(), Word(")\n"), bids])
 }
 
 fn band() -> Part {

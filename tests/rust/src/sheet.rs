@@ -30,7 +30,7 @@ fn line(row: &Row) -> String {
 
 pub fn sheet(book: &Book, award: &Award, table: &Table) -> Vec<u8> {
     let lines: String = rows(book, award, table).iter().map(line).collect();
-    format!("(award {} {})\n{lines}", book.demand, award.total).into_bytes()
+    format!("(award {} {} {})\n{lines}", book.demand, award.bought, award.total).into_bytes()
 }
 
 /// The numbers that stand on a sheet, from the first on; nothing for `none`.

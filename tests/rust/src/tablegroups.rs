@@ -7,13 +7,13 @@ use crate::random::Random;
 use crate::table::{Loaded, Rule, Table, RULES};
 use std::rc::Rc;
 
-const GOOD_BOOK: &[u8] = b"(demand 120)
+const GOOD_BOOK: &[u8] = b"(demand 120 0)
 (bid 3 0 (seg 1 60 400 0) (seg 61 100 350 -500))
 (bid 8 0 (seg 20 80 380 1000))
 (bid 12 0 (seg 120 120 370 0))
 ";
 
-const OTHER_BOOK: &[u8] = b"(demand 9)\n(bid 4 0 (seg 2 9 3 -5))\n";
+const OTHER_BOOK: &[u8] = b"(demand 9 1)\n(bid 4 0 (seg 2 9 3 -5))\n";
 
 fn by_table(comparer: &mut Comparer, random: &mut Random, table: &Rc<Loaded>, book: &[u8]) {
     comparer.text(book, |judged| calls::by_table(random, judged, table));
@@ -231,15 +231,16 @@ fn books_of_every_refusal() -> Vec<Vec<u8>> {
     let seven: String = (1..=7).map(|start| format!(" (seg {start} {start} 5 0)")).collect();
     let texts = [
         "",
-        "(demand 9)\n(bid",
-        "(demand 0)\n(bid 1 0 (seg 1 1 5 0))\n",
-        "(demand 9)\n(bid 8 0 (seg 1 9 5 0))\n(bid 8 0 (seg 1 9 5 0))\n",
-        "(demand 9)\n(bid 8 0 (seg 9 1 5 0))\n",
-        "(demand 9)\n(bid 8 0 (seg 1 9 5 -6))\n",
-        "(demand 9)\n(bid 8 0 (seg 1 8 5 0))\n",
-        "(demand 8)\n(bid 8 0 (seg 1 8 5 0))\n",
+        "(demand 9 0)\n(bid",
+        "(demand 0 0)\n(bid 1 0 (seg 1 1 5 0))\n",
+        "(demand 9 1000001)\n(bid 8 0 (seg 1 9 5 0))\n",
+        "(demand 9 0)\n(bid 8 0 (seg 1 9 5 0))\n(bid 8 0 (seg 1 9 5 0))\n",
+        "(demand 9 0)\n(bid 8 0 (seg 9 1 5 0))\n",
+        "(demand 9 0)\n(bid 8 0 (seg 1 9 5 -6))\n",
+        "(demand 9 0)\n(bid 8 0 (seg 1 8 5 0))\n",
+        "(demand 8 0)\n(bid 8 0 (seg 1 8 5 0))\n",
     ];
     let mut all: Vec<Vec<u8>> = texts.iter().map(|text| text.as_bytes().to_vec()).collect();
-    all.extend([too_long, format!("(demand 9)\n{nine}").into_bytes(), format!("(demand 9)\n(bid 1 0{seven})\n").into_bytes()]);
+    all.extend([too_long, format!("(demand 9 0)\n{nine}").into_bytes(), format!("(demand 9 0)\n(bid 1 0{seven})\n").into_bytes()]);
     all
 }

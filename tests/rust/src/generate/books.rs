@@ -68,7 +68,7 @@ fn carriage(random: &mut Random, plan: &Plan) -> i64 {
     }
 }
 
-/// A book of the plan with the demand 1.
+/// A book of the plan with the demand 1 and no allowance.
 fn bids(random: &mut Random, plan: &Plan) -> Book {
     let count = random.between(plan.bids.0, plan.bids.1);
     let mut bidder = if random.chance(10) { 9_999 - 40 } else { 0 };
@@ -77,7 +77,7 @@ fn bids(random: &mut Random, plan: &Plan) -> Book {
         bidder += random.between(1, 5);
         list.push(Bid { bidder, carriage: carriage(random, plan), segments: segments(random, plan) });
     }
-    Book { demand: 1, bids: list }
+    Book { demand: 1, allowance: 0, bids: list }
 }
 
 fn sum(book: &Book, of: impl Fn(&Bid) -> i64) -> i64 {
@@ -118,9 +118,41 @@ pub fn demand(random: &mut Random, book: &Book) -> i64 {
     wanted.clamp(1, MOST)
 }
 
-pub fn book(random: &mut Random, plan: &Plan) -> Book {
-    let mut book = bids(random, plan);
+/// Often 0; else a few blanks, a part of the demand, so many that all that is offered is just taken or just not, any up to that, or more
+/// than can be sold.
+pub fn allowance(random: &mut Random, book: &Book) -> i64 {
+    let ends = all_ends(book);
+    let wanted = match random.below(12) {
+        0..=4 => 0,
+        5..=7 => random.between(1, 4),
+        8 => random.between(0, book.demand / 10 + 1),
+        9 => ends - book.demand + random.between(-1, 1),
+        10 => random.between(0, ends),
+        _ => random.pick(&[ends, ends + 1, MOST - 1, MOST]),
+    };
+    wanted.clamp(0, MOST)
+}
+
+/// The book with a demand and an allowance.
+fn ordered(random: &mut Random, mut book: Book) -> Book {
     book.demand = demand(random, &book);
+    book.allowance = allowance(random, &book);
+    book
+}
+
+pub fn book(random: &mut Random, plan: &Plan) -> Book {
+    let book = bids(random, plan);
+    ordered(random, book)
+}
+
+/// A book in which the starts of some choice of segments pass the demand by just the allowance, or by one more or one less.
+pub fn passed(random: &mut Random, plan: &Plan) -> Book {
+    let mut book = bids(random, plan);
+    let start = |bid: &Bid| if random.chance(30) { 0 } else { bid.segments[random.below(bid.segments.len())].start };
+    let starts: i64 = book.bids.iter().map(start).sum();
+    let over = random.pick(&[1, 1, 2, 3, starts / 20 + 1, starts / 2]).clamp(0, MOST);
+    book.demand = (starts - over).clamp(1, MOST);
+    book.allowance = (over + random.pick(&[0, 0, -1, -1, 1])).clamp(0, MOST);
     book
 }
 
@@ -142,8 +174,7 @@ pub fn tied(random: &mut Random, plan: &Plan) -> Book {
             }
         }
     }
-    book.demand = demand(random, &book);
-    book
+    ordered(random, book)
 }
 
 /// All segments at one price of a blank, which is shared out between unit price and carriage.

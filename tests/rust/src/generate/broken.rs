@@ -38,8 +38,9 @@ fn out_of_range(random: &mut Random, book: &mut Book) {
     let segment = &mut book.bids[index].segments[number];
     let zero = random.chance(35);
     let quantity = if zero { 0 } else { past(random, books::MOST) };
-    match random.below(7) {
+    match random.below(8) {
         0 => book.demand = quantity,
+        7 => book.allowance = past(random, books::MOST),
         1 => book.bids[index].bidder = if zero { 0 } else { past(random, 9_999) },
         2 => book.bids[index].carriage = past(random, books::MOST_CARRIAGE),
         3 => segment.start = quantity,

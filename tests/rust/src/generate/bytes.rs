@@ -1,4 +1,5 @@
-//! Texts made of bytes: edits of books and tables, other words for a carriage, beginnings, any bytes, and texts beside the longest length.
+//! Texts made of bytes: edits of books and tables, other words for a carriage or an allowance, beginnings, any bytes, and texts beside the
+//! longest length.
 
 use crate::random::Random;
 
@@ -91,6 +92,45 @@ pub fn carriage_replaced(random: &mut Random, book: &[u8]) -> Vec<u8> {
     lines.concat().into_bytes()
 }
 
+/// What is put where an allowance stands: as for a carriage, with its own limits.
+const ALLOWANCES: [&str; 26] = [
+    "0",
+    "1",
+    "2",
+    "10",
+    "999999",
+    "1000000",
+    "1000001",
+    "9999999",
+    "10000000",
+    "4294967296",
+    "4294967297",
+    "4295967296",
+    "9999999999999",
+    "10000000000000",
+    "99999999999999",
+    "00",
+    "07",
+    "-1",
+    "-0",
+    "+1",
+    "1.5",
+    "",
+    " 5",
+    "1 2",
+    "allowance",
+    "(seg 1 5 1 0)",
+];
+
+/// A book with another word for the allowance, or the old form, which has none.
+pub fn allowance_replaced(random: &mut Random, book: &[u8]) -> Vec<u8> {
+    let book = std::str::from_utf8(book).expect("a book has ASCII alone");
+    let (first, bids) = book.split_once('\n').expect("a demand line");
+    let (demand, _) = first.rsplit_once(' ').expect("a demand line");
+    let word = if random.chance(80) { format!(" {}", random.pick(&ALLOWANCES)) } else { String::new() };
+    format!("{demand}{word})\n{bids}").into_bytes()
+}
+
 /// One line, not the first.
 fn one_of(random: &mut Random, lines: usize) -> std::ops::Range<usize> {
     let line = 1 + random.below(lines - 1);
@@ -105,7 +145,7 @@ pub fn any_bytes(random: &mut Random) -> Vec<u8> {
     (0..length).map(|_| byte(random)).collect()
 }
 
-const TOKENS: [&str; 28] = [
+const TOKENS: [&str; 30] = [
     "(",
     ")",
     " ",
@@ -114,6 +154,8 @@ const TOKENS: [&str; 28] = [
     "bid",
     "seg",
     "(demand ",
+    "(demand 5 2)\n",
+    " 1000001",
     "(bid ",
     " (seg ",
     "0",
@@ -136,14 +178,16 @@ const TOKENS: [&str; 28] = [
     "(bid 7 (seg 1 5 1 0))\n",
 ];
 
-const BEGINNINGS: [&str; 7] = [
+const BEGINNINGS: [&str; 9] = [
     "",
     "(demand ",
-    "(demand 5)\n",
-    "(demand 5)\n(bid 3",
-    "(demand 5)\n(bid 3 0",
-    "(demand 5)\n(bid 3 0 (seg 1 5 1 0)",
-    "(demand 5)\n(bid 3 0 (seg 1 5 1 0))\n",
+    "(demand 5",
+    "(demand 5 ",
+    "(demand 5 0)\n",
+    "(demand 5 2)\n(bid 3",
+    "(demand 5 0)\n(bid 3 0",
+    "(demand 5 2)\n(bid 3 0 (seg 1 5 1 0)",
+    "(demand 5 0)\n(bid 3 0 (seg 1 5 1 0))\n",
 ];
 
 /// Words and signs of a book in any order, after a good beginning.
@@ -179,9 +223,9 @@ fn filled(length: usize, head: &str, part: &str, tail: &str, close: &str) -> Vec
 
 /// Texts of the shape of exactly this length: many bids, made up by bidder numbers or by carriages, and many segments in one bid.
 pub fn of_length(length: usize) -> [Vec<u8>; 3] {
-    let bids = filled(length, "(demand 5)\n", "(bid ", " 0 (seg 1 1 1 0))\n", "");
-    let carriages = filled(length, "(demand 5)\n", "(bid 1 ", " (seg 1 1 1 0))\n", "");
-    let segments = filled(length, "(demand 5)\n(bid 1 0", " (seg 1 1 1 ", ")", ")\n");
+    let bids = filled(length, "(demand 5 0)\n", "(bid ", " 0 (seg 1 1 1 0))\n", "");
+    let carriages = filled(length, "(demand 5 2)\n", "(bid 1 ", " (seg 1 1 1 0))\n", "");
+    let segments = filled(length, "(demand 5 0)\n(bid 1 0", " (seg 1 1 1 ", ")", ")\n");
     [bids, carriages, segments]
 }
 

@@ -1,5 +1,5 @@
-//! Books of families that are hard for a search with bounds: many choices cost nearly the same, or few meet the demand. In the last one
-//! carriage decides the order.
+//! Books of families that are hard for a search with bounds: many choices cost nearly the same, or few meet the demand. In one carriage
+//! decides the order, and in the last one blanks come in drums.
 
 use super::books::{self, MOST, MOST_CARRIAGE};
 use crate::book::{Bid, Book, Segment};
@@ -21,7 +21,7 @@ pub const FULL: Size = Size { bids: (8, 8), segments: 6, top: 4_000 };
 
 pub type Family = fn(&mut Random, &Size) -> Book;
 
-pub const ALL: [Family; 5] = [steps, giant, parity, noise, carriage];
+pub const ALL: [Family; 6] = [steps, giant, parity, noise, carriage, drums];
 
 /// Different numbers from 1 to `top`, rising: so many, or all where there are not so many.
 pub fn rising(random: &mut Random, count: usize, top: i64) -> Vec<i64> {
@@ -32,11 +32,11 @@ pub fn rising(random: &mut Random, count: usize, top: i64) -> Vec<i64> {
     numbers.into_iter().collect()
 }
 
-/// A book with the demand 1 whose bids have these segments and no carriage.
+/// A book with the demand 1 and no allowance whose bids have these segments and no carriage.
 fn bids(random: &mut Random, size: &Size, mut segments: impl FnMut(&mut Random) -> Vec<Segment>) -> Book {
     let count = random.between(size.bids.0, size.bids.1);
     let bid = |index: i64| Bid { bidder: index + 1, carriage: 0, segments: segments(random) };
-    Book { demand: 1, bids: (0..count).map(bid).collect() }
+    Book { demand: 1, allowance: 0, bids: (0..count).map(bid).collect() }
 }
 
 /// From three to seven tenths of all that is offered, or as for other books.
@@ -50,10 +50,12 @@ fn with_demand(random: &mut Random, mut book: Book) -> Book {
 }
 
 /// In a third of the books each bidder takes a part of its unit prices for its carriage, as much as rule 8 allows or less: all prices stay.
+/// And an allowance as for other books.
 fn shared_out(random: &mut Random, mut book: Book) -> Book {
     if random.chance(33) {
         book.bids.iter_mut().for_each(|bid| share_out(random, bid));
     }
+    book.allowance = books::allowance(random, &book);
     book
 }
 
@@ -175,7 +177,9 @@ pub fn carriage(random: &mut Random, size: &Size) -> Book {
     let blank = random.pick(&[3, 12, 400, MOST_CARRIAGE, 400_000]);
     let mut book = bids(random, size, |random| places(random, size, 30));
     book.bids.iter_mut().for_each(|bid| carried(random, bid, blank));
-    with_demand(random, book)
+    let mut book = with_demand(random, book);
+    book.allowance = books::allowance(random, &book);
+    book
 }
 
 fn carried(random: &mut Random, bid: &mut Bid, blank: i64) {
@@ -184,4 +188,27 @@ fn carried(random: &mut Random, bid: &mut Bid, blank: i64) {
         segment.unit = blank - bid.carriage + random.between(0, 2);
         segment.fixed = random.pick(&[0, 0, 1, 100]);
     }
+}
+
+/// Each bidder sells whole drums, of a size of its own and at near prices, some also a few blanks over a drum: what is bought mostly passes the
+/// demand, by a few blanks or up to the allowance, which is about a drum.
+pub fn drums(random: &mut Random, size: &Size) -> Book {
+    let line = random.between(1, 400);
+    let most = (size.top / size.segments as i64).max(2);
+    let segments = |random: &mut Random| {
+        let drum = random.between(2, most);
+        let filled = |random: &mut Random, count: i64| {
+            let (unit, start) = (random.between(0, line), count * drum);
+            let end = start + if random.chance(25) { random.between(0, drum - 1) } else { 0 };
+            Segment { start, end, unit, fixed: (line - unit) * start + random.between(0, line) }
+        };
+        (1..=size.segments as i64).map(|count| filled(random, count)).collect()
+    };
+    let book = bids(random, size, segments);
+    let book = with_demand(random, book);
+    let mut book = shared_out(random, book);
+    if random.chance(70) {
+        book.allowance = random.between(0, most);
+    }
+    book
 }

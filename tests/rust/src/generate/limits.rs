@@ -45,12 +45,12 @@ fn carriage(random: &mut Random) -> i64 {
     }
 }
 
-pub fn book(random: &mut Random, most_bids: i64, demands: &[i64]) -> Book {
+pub fn book(random: &mut Random, most_bids: i64, demands: &[i64], allowances: &[i64]) -> Book {
     let count = random.between(1, most_bids);
     let first = random.pick(&[1, 2, 9_999 - count, 10_000 - count, 10_000 - count]);
     let bid = |index: i64| Bid { bidder: first + index, carriage: carriage(random), segments: segments(random) };
     let bids = (0..count).map(bid).collect();
-    Book { demand: random.pick(demands), bids }
+    Book { demand: random.pick(demands), allowance: random.pick(allowances), bids }
 }
 
 /// A number and those beside it.
@@ -65,12 +65,20 @@ pub fn bought(quantity: i64, fixed: i64) -> Book {
     let first = Segment { start: 1, end: MOST, unit, fixed };
     let second = Segment { start: quantity.max(1), end: quantity.max(1), unit: 1, fixed: fixed.max(0) };
     let bid = |bidder, segment| Bid { bidder, carriage: 0, segments: vec![segment] };
-    Book { demand: quantity, bids: vec![bid(10, first), bid(100, second)] }
+    Book { demand: quantity, allowance: 0, bids: vec![bid(10, first), bid(100, second)] }
 }
 
 /// Eight bids whose sheet is as long as a sheet can be made here: large quantities, prices and totals.
 pub fn longest(spare: i64) -> Book {
     let dear = |start, end| Segment { start, end, unit: MOST, fixed: MOST_FIXED };
     let bid = |index: i64| Bid { bidder: 9_992 + index, carriage: MOST_CARRIAGE, segments: vec![dear(100_000, 125_000 + spare)] };
-    Book { demand: MOST, bids: (0..8).map(bid).collect() }
+    Book { demand: MOST, allowance: 0, bids: (0..8).map(bid).collect() }
+}
+
+/// Two bidders who sell 999,999 blanks each, and a demand of 1,000,000: both sell where the allowance is 999,998 or more, which is the most
+/// that can be bought; one blank more from each, and one of them would do.
+pub fn most_bought(allowance: i64) -> Book {
+    let segment = |unit| Segment { start: MOST - 1, end: MOST - 1, unit, fixed: MOST_FIXED };
+    let bid = |index: i64| Bid { bidder: 9_998 + index, carriage: MOST_CARRIAGE, segments: vec![segment(MOST - index)] };
+    Book { demand: MOST, allowance, bids: (0..2).map(bid).collect() }
 }

@@ -1,11 +1,11 @@
-//! Proposed splits of a book: exact, missing, too many, in a gap, beside a segment, 0, and past every range.
+//! Proposed splits of a book: taken, just taken or just not, missing, too many, in a gap, beside a segment, 0, and past every range.
 
 use super::books;
 use crate::book::Book;
 use crate::expected::Judged;
 use crate::random::Random;
 
-pub const KINDS: usize = 12;
+pub const KINDS: usize = 13;
 
 fn sold(random: &mut Random, book: &Book) -> Vec<u64> {
     book.bids.iter().map(|bid| books::sold(random, bid) as u64).collect()
@@ -29,6 +29,20 @@ fn huge(random: &mut Random, list: &mut [u64]) {
 fn longer(random: &mut Random, list: &mut Vec<u64>) {
     for _ in 0..random.pick(&[1, 1, 2, 9, 40]) {
         list.push(random.pick(&[0, 0, 1, u64::MAX]));
+    }
+}
+
+/// Each quantity moved on its segment toward a sum that is just taken, or just not; often it is reached.
+fn at_limit(random: &mut Random, book: &Book, list: &mut [u64]) {
+    let most = book.demand + book.allowance;
+    let wanted = random.pick(&[book.demand, book.demand - 1, book.demand + 1, most, most + 1]);
+    let mut missing = wanted - list.iter().sum::<u64>() as i64;
+    for (bid, quantity) in book.bids.iter().zip(list) {
+        let before = *quantity as i64;
+        let Some(on) = bid.segments.iter().find(|segment| segment.holds(before)) else { continue };
+        let after = (before + missing).clamp(on.start, on.end);
+        missing -= after - before;
+        *quantity = after as u64;
     }
 }
 
@@ -60,7 +74,8 @@ pub fn of_kind(random: &mut Random, judged: &Judged, book: &Book, kind: usize) -
             beside(random, book, &mut list);
             longer(random, &mut list);
         }
-        _ => list.clear(),
+        11 => list.clear(),
+        _ => at_limit(random, book, &mut list),
     }
     list
 }
