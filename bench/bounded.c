@@ -53,13 +53,13 @@ static int64_t charge(const struct segment *s, uint64_t most, int64_t blank)
     return smaller(charge_at(s, (int64_t)s->start, blank), charge_at(s, most_on(s, most), blank));
 }
 
-/* The segment of least charge among those that start within the demand, the latest of equals. */
+/* The segment of least charge among those that start within demand and allowance, the latest of equals. */
 static const struct segment *favourite(const struct book *book, size_t i, int64_t blank)
 {
     const struct bid *bid = &book->bids[i];
     const struct segment *best = &bid->segments[0];
 
-    for (size_t j = 1; j <= bid->count && bid->segments[j].start <= book->demand; j++) {
+    for (size_t j = 1; j <= bid->count && bid->segments[j].start <= most_of(book); j++) {
         if (charge(&bid->segments[j], most_of(book), blank) <= charge(best, most_of(book), blank)) {
             best = &bid->segments[j];
         }
@@ -196,14 +196,8 @@ static void join(struct sums *class, const struct sums *sums)
     }
 }
 
-/* Which class takes so many blanks at the starts, where those that do not pass the demand are at most `most`. */
-static size_t class_of(int64_t starts, int64_t most)
-{
-    return (size_t)smaller(starts * CLASSES / (most + 1), CLASSES - 1);
-}
-
-/* The classes of the bidders from `at` on, from those of the bidders after it: each with each segment, put together by their starts, less
- * what passes demand and allowance. */
+/* The classes of the bidders from `at` on, from those of the bidders after it: each with each segment, put together by their starts, which
+ * are at most `most` where anything is to be found. */
 static void survey_bid(const struct book *book, size_t at, int64_t most, struct bounds *b)
 {
     const struct bid *bid = &book->bids[at];
@@ -217,7 +211,7 @@ static void survey_bid(const struct book *book, size_t at, int64_t most, struct 
             struct sums sums = with(&b->classes[at + 1][k], &bid->segments[j], most_of(book), b->prices);
 
             if (sums.low <= (int64_t)most_of(book)) {
-                join(&table[class_of(sums.low, most)], &sums);
+                join(&table[sums.low * CLASSES / (most + 1)], &sums);
             }
         }
     }
@@ -238,7 +232,7 @@ static void survey(const struct book *book, struct bounds *b)
     b->classes[book->count][0] = (struct sums){0};
     for (size_t i = book->count; i-- > 0;) {
         ends += (int64_t)book->bids[i].segments[book->bids[i].count].end;
-        survey_bid(book, i, smaller(ends, (int64_t)book->demand), b);
+        survey_bid(book, i, smaller(ends, (int64_t)most_of(book)), b);
     }
 }
 

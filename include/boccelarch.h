@@ -34,7 +34,7 @@
  *
  * A thread with a stack of 64 KB can call each of them: tests/boundary/run checks it on a book of eight bids of six segments.
  * With boccelarch_sheet, boccelarch_page and boccelarch_award, by a table or not, most books are cleared in about a millisecond or less, the
- * slowest known in 0.12 s (bench/RESULTS.md).
+ * slowest known in 0.2 s (bench/RESULTS.md).
  *
  * That the functions answer what docs/CLAIMS.md states is proved, for every text and every length.
  */
