@@ -42,5 +42,5 @@ pub fn capped(order: Order, blanks: Blanks) -> Blanks
         let most = order.demand.0 + order.allowance.0;
         return Blanks(most);
     }
-    blanks
+    Blanks(blanks.0)
 }
