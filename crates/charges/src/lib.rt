@@ -61,17 +61,25 @@ fn charge_at(s: Segment, quantity: Blanks, price: CentsPerBlank) -> u64
     cents + rest
 }
 
-// What a segment is charged: as its start or its end, whichever is less. It is pub for the hints.
+// What a segment is charged that is cut at an end: as its start or that end, whichever is less.
+fn charge_to(s: Segment, end: Blanks, price: CentsPerBlank) -> u64
+    requires { ⌜ ChargeableAt s (end .0) (price .0) ⌝ }
+    ensures { λ r. ⌜ r ≡ min (chargeAt (price .0) s (s .start .0)) (chargeAt (price .0) s (end .0)) ⌝ }
+{
+    let start = s.start;
+    let at_start = charge_at(s, start, price);
+    let at_end = charge_at(s, end, price);
+    smaller(at_start, at_end)
+}
+
+// What a segment is charged, cut at what the order takes. It is pub for the hints.
 pub fn charge(s: Segment, order: Order, price: CentsPerBlank) -> u64
     requires { ⌜ Chargeable s (price .0) ⌝ }
     ensures { λ r. ⌜ r ≡ charge order (price .0) s ⌝ }
 {
-    let start = s.start;
     let high = s.end;
     let end = supply::capped(order, high);
-    let at_start = charge_at(s, start, price);
-    let at_end = charge_at(s, end, price);
-    smaller(at_start, at_end)
+    charge_to(s, end, price)
 }
 
 // The sums of one segment. It is pub, as `plus` is, for the search and for what is worked out before it.
@@ -81,10 +89,11 @@ pub fn charged(s: Segment, order: Order, prices: Prices) -> Sums
 {
     let low = s.start;
     let high = s.end;
+    let end = supply::capped(order, high);
     let a = prices.first;
     let b = prices.second;
-    let first = charge(s, order, a);
-    let second = charge(s, order, b);
+    let first = charge_to(s, end, a);
+    let second = charge_to(s, end, b);
     Sums {
         low,
         high,

@@ -13,14 +13,17 @@ use comparison::MaybeDivision;
 use money::Blanks;
 use money::CentsPerBlank;
 
-// Whether no division lies within these sums: the starts pass what the order takes, or the ends do not reach the demand.
+// Whether no division lies within these sums: the starts pass what the order takes, or the ends do not reach the demand. Starts up to the
+// demand pass nothing and are told apart first, since this is asked most.
 fn apart(order: Order, x: Sums) -> bool
     ensures { λ r. ⌜ (r ≡ true → (mostOf order < x .low .0) ⊎ (x .high .0 ≤ order .demand .0)) ⌝ }
     ensures { λ r. ⌜ (r ≡ false → order .demand .0 < x .high .0) ⌝ }
 {
     let low = x.low;
-    if supply::passes(order, low) {
-        return true;
+    if order.demand.0 < low.0 {
+        if supply::passes(order, low) {
+            return true;
+        }
     }
     x.high.0 <= order.demand.0
 }

@@ -79,11 +79,10 @@ fn extra(c: Choice, i: usize, left: Blanks) -> Blanks
 fn left_over(order: Order, starts: Blanks) -> Blanks
     ensures { λ r. ⌜ r .0 ≡ order .demand .0 - starts .0 ⌝ }
 {
-    if order.demand.0 <= starts.0 {
-        return Blanks(0);
+    if starts.0 < order.demand.0 {
+        return Blanks(order.demand.0 - starts.0);
     }
-    let rest = order.demand.0 - starts.0;
-    Blanks(rest)
+    Blanks(0)
 }
 
 // The cheapest quantities within a choice that fits: from the last bidder to the first, each gets its

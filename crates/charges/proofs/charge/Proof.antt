@@ -1,19 +1,17 @@
--- The lesser of the two, by what `charge_at` answers.
-use Prim.Native.Nat.{min}
-use mathlib.Core.Path.{ap, ap₂, _∙_}
+-- The end that is charged is the segment's, cut at what the order takes.
+use native.Mathlib.Omega.{arith}
 use borrow.Author.Needs.{needs}
-use Rattle.charges.specs.Charge.{chargeAt, charge}
+use Rattle.charges.proofs.Cut.{charge-cut}
 use Rattle.charges.proofs.charge.Statement.{statement}
 use Rattle.charges.proofs.charge.Tie as tie
 
-abbrev start : tie.After-smaller → tie.Start
-start c = c .before .before .before .before .before .before
+charge-to-requires : tie.Need-charge-to-requires
+charge-to-requires c κs =
+    let p = c .before .before .pre in
+    record { sound = p .sound; few = omega (arith, c .capped .ensures, p .sound .end-high); capped = p .capped }
 
 returns : tie.Need-returns
-unfolding charge
-returns c =
-    let at-end = c .before .charge-at2 .ensures ∙ ap (chargeAt (start c .args .price .0) (start c .args .s)) (c .before .before .before .capped .ensures) in
-    c .smaller .ensures ∙ ap₂ min (c .before .before .charge-at .ensures) at-end
+returns c = charge-cut _ _ _ _ _ (c .before .capped .ensures) (c .charge-to .ensures)
 
 pub charge-spec : {M : Type 1} → statement M
-charge-spec = tie.close (tie.spec (λ c κs. search needs) (λ c κs. search needs) (λ c κs. search needs) (λ c κs. search needs) returns)
+charge-spec = tie.close (tie.spec (λ c κs. search needs) charge-to-requires returns)

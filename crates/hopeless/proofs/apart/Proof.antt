@@ -8,11 +8,11 @@ use Rattle.hopeless.proofs.apart.Statement.{statement}
 use Rattle.hopeless.proofs.apart.Tie as tie
 
 returns : tie.Need-returns
-returns c = (λ e. inl (ltb-true _ _ (sym (c .before .passes .ensures) ∙ c .if1 .taken)), λ e. absurd (false≢true (sym e)))
+returns c = (λ e. inl (ltb-true _ _ (sym (c .before .passes .ensures) ∙ c .if2 .taken)), λ e. absurd (false≢true (sym e)))
 
 returns-2 : tie.Need-returns-2
 returns-2 c =
-    let a = c .before .before .before .before .before .args in
+    let a = c .before .before .before .before .before .before .args in
     (λ e. inr (leb-true (a .x .high .0) (a .order .demand .0) e), λ e. leb-false (a .x .high .0) (a .order .demand .0) e)
 
 pub apart-spec : {M : Type 1} → statement M
