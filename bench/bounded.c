@@ -267,10 +267,12 @@ static bool reaches(const struct sums *class, const struct sums *chosen, const s
     return chosen->low + class->low <= (int64_t)most_of(book) && (int64_t)book->demand <= chosen->high + class->high;
 }
 
-static bool too_dear(const struct sums *class, const int64_t *highest)
+/* Whether the ways of this class cost too much by one of the prices. What is bought is the demand at least, and the starts: `over` is how many
+ * blanks the starts are above the demand. */
+static bool too_dear(const struct sums *class, const int64_t *highest, const struct bounds *b, int64_t over)
 {
     for (size_t k = 0; k < PRICES; k++) {
-        if (class->charges[k] > highest[k]) {
+        if (class->charges[k] > highest[k] - b->prices[k] * over) {
             return true;
         }
     }
@@ -288,8 +290,9 @@ static bool hopeless(const struct choice *c, const struct bounds *b, size_t n, c
     }
     for (size_t k = 0; k < b->counts[n]; k++) {
         const struct sums *class = &b->classes[n][k];
+        int64_t over = chosen->low + class->low - (int64_t)c->book->demand;
 
-        if (reaches(class, chosen, c->book) && !(c->best.found && too_dear(class, highest))) {
+        if (reaches(class, chosen, c->book) && !(c->best.found && too_dear(class, highest, b, over > 0 ? over : 0))) {
             return false;
         }
     }

@@ -6,3 +6,4 @@ pub mod Cleared
 pub mod Costs
 pub mod Amounts
 pub mod Samples
+pub mod Before

@@ -1,2 +1,3 @@
 pub mod OfBook
 pub mod Awarded
+pub mod Before

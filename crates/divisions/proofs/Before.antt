@@ -2,18 +2,23 @@
 use Prim.Native.Nat.{ℕ}
 use native.Mathlib.Omega.{arith}
 use mathlib.Core.List.{List}
-use mathlib.Core.Logic.{_⊎_, inl, inr}
+use mathlib.Core.Logic.{_⊎_, inl, inr, _↔_}
+use mathlib.Core.Option.{some}
 use mathlib.Core.Path.{_≡_, sym, _∙_}
 use lib.Signed.{_<ℤ_}
+use Rattle.lists.specs.All.{All}
 use Rattle.book.specs.declared.Segment.{Segment}
 use Rattle.book.specs.declared.Order.{Order}
+use Rattle.book.specs.Entries.{BookEntries}
+use Rattle.supply.specs.Curve.{curvesOf, NoCarriage}
 use Rattle.supply.specs.Allocation.{bought, costOf}
 use Rattle.supply.proofs.Orders.{meets-low, meets-high, meets-when}
 use Rattle.divisions.specs.Division.{Division}
-use Rattle.divisions.specs.Award.{Priced}
+use Rattle.divisions.specs.Award.{Priced, awardOfBook}
 use Rattle.divisions.specs.IsAward.{GivesLess, Worse, IsAward}
 use Rattle.divisions.specs.Before.{DivisionBefore, IsAwardBefore, AsBefore}
 use Rattle.divisions.proofs.Award.{no-award-iff, award-is, only-award}
+use Rattle.divisions.proofs.Carriage.{stored-keep}
 
 module _ (order : Order) (supplies : List (List Segment)) (exact : order .allowance .0 ≡ 0) where
   abbrev demand : ℕ
@@ -77,3 +82,11 @@ module _ (order : Order) (supplies : List (List Segment)) (exact : order .allowa
       λ f. no-award-iff order supplies .1 (λ rs d. f rs (to rs d)),
     );
   }
+
+-- a stored book, without carriage and without allowance, has the award that its curves alone had
+pub stored-before : (b : BookEntries) → All NoCarriage (b .bids) → b .order .allowance .0 ≡ 0 → (award : Priced)
+    → (awardOfBook b ≡ some award) ↔ (IsAwardBefore (b .order .demand .0) (curvesOf (b .bids)) award × (award .blanks ≡ b .order .demand .0))
+stored-before b stored exact award =
+    let same = stored-keep b stored .award in
+    let (to, from) = as-before (b .order) (curvesOf (b .bids)) exact .award award in
+    (λ e. to (sym same ∙ e), λ h. same ∙ from h)

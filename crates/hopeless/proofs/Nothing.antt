@@ -40,10 +40,10 @@ use Rattle.comparison.specs.Records.{blanksIn, divisionIn, found}
 use Rattle.charges.specs.declared.Prices.{Prices}
 use Rattle.charges.specs.declared.Sums.{Sums}
 use Rattle.charges.specs.Charge.{million, charges}
-use Rattle.charges.specs.Records.{SumsOf}
+use Rattle.charges.specs.Records.{SumsOf, sumsWith}
 use Rattle.charges.proofs.Bound.{charges-below}
 use Rattle.completions.specs.Classes.{classAt, classCount, Admits}
-use Rattle.hopeless.specs.Hopeless.{WinsTies, Above, Closed, empty, passed, short, dearFirst, dearSecond, NothingBetter}
+use Rattle.hopeless.specs.Hopeless.{WinsTies, Above, leastBought, Closed, empty, passed, short, dearFirst, dearSecond, NothingBetter}
 
 -- A cost against a sum of prices.
 
@@ -78,9 +78,12 @@ module _ (order : Order) (n : ℕ) (prices : Prices) (c : List Segment) (sound :
     abbrev price : ℕ
     price = cost c (p .extras) + cost e ys
 
-    bound : (l : ℕ) → charges order l c + charges order l e + l * order .demand .0 ≤ price + l * (million * n)
-    bound l =
-        let enough = mul-le-mul-left l (p .enough) in
+    abbrev whole : Priced
+    whole = together c (p .extras) e ys
+
+    bound : (l least : ℕ) → least ≤ whole .blanks → charges order l c + charges order l e + l * least ≤ price + l * (million * n)
+    bound l least h =
+        let enough = mul-le-mul-left l h in
         let size : length c + length e ≡ n = omega (arith, chosen-length supplies e ys (p .chosen), length-map bids supplyOf) in
         let blanks = ap (λ (k : ℕ). l * (million * k)) size in
         omega (
@@ -90,9 +93,6 @@ module _ (order : Order) (n : ℕ) (prices : Prices) (c : List Segment) (sound :
           charges-below order l c (p .extras) sound (p .box) (omega (arith, p .not-over)),
           charges-below order l e ys (chosen-each supplies e ys sound-left (p .chosen)) (chosen-box supplies e ys (p .chosen)) (omega (arith, p .not-over)),
         )
-
-    abbrev whole : Priced
-    whole = together c (p .extras) e ys
 
     loses : natAbs (best .cost .0) < price → NotBetter d kept
     loses h = inr (subst (λ (x : Priced). better kept x ≡ true) (sym (p .is)) (better-cost kept whole (cheaper-than (best .cost .0) price h)))
@@ -109,9 +109,16 @@ module _ (order : Order) (n : ℕ) (prices : Prices) (c : List Segment) (sound :
         inr (subst (λ (x : Priced). better kept x ≡ true) (sym (p .is))
         (⊎-elim (λ k. better-cost kept whole k) (λ k. better-tie kept whole k won) (no-dearer-than (best .cost .0) price h)))
 
-    too-dear : (l charged : ℕ) → charged ≤ charges order l c + charges order l e → Above order n l charged (natAbs (best .cost .0)) ties → NotBetter d kept
-    too-dear l charged h (inl a) = loses (omega (arith, bound l))
-    too-dear l charged h (inr (t, a)) = ties-lost (omega (arith, bound l)) (wins t)
+    too-dear : (l least charged : ℕ) → least ≤ whole .blanks → charged ≤ charges order l c + charges order l e
+        → Above least n l charged (natAbs (best .cost .0)) ties → NotBetter d kept
+    too-dear l least charged k h (inl a) = loses (omega (arith, bound l least k))
+    too-dear l least charged k h (inr (t, a)) = ties-lost (omega (arith, bound l least k)) (wins t)
+
+    -- it sells the demand at least, and the starts of the choice and what the class has
+    at-least : (sums class : Sums) → SumsOf order prices c sums
+        → Admits class (bought (placed e ys)) (charges order (prices .first .0) e) (charges order (prices .second .0) e)
+        → leastBought order (sumsWith sums class) ≤ whole .blanks
+    at-least sums class s a = omega (arith, p .enough, s .low, a .low, placed-bought c (p .extras) (p .box))
 
     -- its way to complete the choice is of a class that is closed
     verdict : (sums class : Sums) → SumsOf order prices c sums
@@ -122,9 +129,9 @@ module _ (order : Order) (n : ℕ) (prices : Prices) (c : List Segment) (sound :
     verdict sums class s a (short h) =
         inl (omega (arith, p .enough, s .high, a .high, placed-bought c (p .extras) (p .box), box-widths c (p .extras) (p .box), ends-widths c sound))
     verdict sums class s a (dearFirst f h) =
-        inr (f, too-dear (prices .first .0) (sums .first + class .first) (omega (arith, s .first, a .first)) h)
+        inr (f, too-dear (prices .first .0) _ (sums .first + class .first) (at-least sums class s a) (omega (arith, s .first, a .first)) h)
     verdict sums class s a (dearSecond f h) =
-        inr (f, too-dear (prices .second .0) (sums .second + class .second) (omega (arith, s .second, a .second)) h)
+        inr (f, too-dear (prices .second .0) _ (sums .second + class .second) (at-least sums class s a) (omega (arith, s .second, a .second)) h)
 
   -- so no division is better
   module _ (verdicts : (d : Priced) → Leaf order supplies c d → ⊥ ⊎ ((best .found ≡ true) × NotBetter d kept)) where

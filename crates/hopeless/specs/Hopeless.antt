@@ -22,7 +22,7 @@ use Rattle.comparison.specs.Records.{blanksIn, found}
 use Rattle.charges.specs.declared.Prices.{Prices}
 use Rattle.charges.specs.declared.Sums.{Sums}
 use Rattle.charges.specs.Charge.{million, highest}
-use Rattle.charges.specs.Records.{Capped, SumsOf, UpTo}
+use Rattle.charges.specs.Records.{Capped, SumsOf, UpTo, sumsWith}
 use Rattle.completions.specs.Classes.{Covers, Graded}
 
 -- The best so far wins every tie against a choice: it has no more blanks than any division of it, which gives each bidder its start and
@@ -31,10 +31,15 @@ pub record WinsTies (order : Order) (c : List Segment) (best : MaybeDivision) : 
   pub few : best .bought .0 ≤ max (order .demand .0) (starts c)
   pub more : givesMore (take (length c) (blanksIn (best .quantities))) (endsInOrder c) ≡ true
 
--- by a price l of a blank, n bidders with these charges cost more than so many cents; or as many, where that is enough
-abbrev pub Above : Order → (n l charged cents : ℕ) → Bool → Type 0
-Above order n l charged cents ties =
-    (cents + l * (million * n) < charged + l * order .demand .0) ⊎ ((ties ≡ true) × (cents + l * (million * n) ≤ charged + l * order .demand .0))
+-- by a price l of a blank, n bidders with these charges who sell `least` blanks or more cost more than so many cents; or as many, where that is
+-- enough
+abbrev pub Above : (least n l charged cents : ℕ) → Bool → Type 0
+Above least n l charged cents ties =
+    (cents + l * (million * n) < charged + l * least) ⊎ ((ties ≡ true) × (cents + l * (million * n) ≤ charged + l * least))
+
+-- what is bought at least within these sums: the demand, or the starts where they pass it
+abbrev pub leastBought : Order → Sums → ℕ
+leastBought order x = max (order .demand .0) (x .low .0)
 
 -- of a choice with these sums and a class of ways to complete it nothing is better than the best so far
 pub data Closed (order : Order) (n : ℕ) (prices : Prices) (sums class : Sums) (ties : Bool) (best : MaybeDivision) : Type 0 where
@@ -45,14 +50,14 @@ pub data Closed (order : Order) (n : ℕ) (prices : Prices) (sums class : Sums) 
   -- the ends do not reach the demand; a class does not count its `high`
   short : sums .high .0 + class .high .0 ≤ order .demand .0 → Closed order n prices sums class ties best
   -- every division costs too much, by the first price or by the second
-  dearFirst : best .found ≡ true → Above order n (prices .first .0) (sums .first + class .first) (natAbs (best .cost .0)) ties
+  dearFirst : best .found ≡ true → Above (leastBought order (sumsWith sums class)) n (prices .first .0) (sums .first + class .first) (natAbs (best .cost .0)) ties
       → Closed order n prices sums class ties best
-  dearSecond : best .found ≡ true → Above order n (prices .second .0) (sums .second + class .second) (natAbs (best .cost .0)) ties
+  dearSecond : best .found ≡ true → Above (leastBought order (sumsWith sums class)) n (prices .second .0) (sums .second + class .second) (natAbs (best .cost .0)) ties
       → Closed order n prices sums class ties best
 
 -- what `dear` asks: numbers of at most eight bidders, so that nothing wraps
-pub record Comparable (demand n l charged cents : ℕ) : Type 0 where
-  pub in-reach : demand ≤ 20000000
+pub record Comparable (least n l charged cents : ℕ) : Type 0 where
+  pub in-reach : least ≤ 20000000
   pub few : n ≤ 8
   pub capped : l ≤ highest
   pub small : charged ≤ 2 ^ 62

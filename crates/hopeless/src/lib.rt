@@ -5,7 +5,7 @@ ghost use mathlib.Core.Bool.{true, false};
 ghost use mathlib.Core.Logic.{_⊎_};
 ghost use Prim.Native.Nat.{_≤_, _<_};
 ghost use Rattle.supply.specs.Meets.{mostOf};
-ghost use Rattle.hopeless.specs.Hopeless.{Above, Closed, Comparable, Closable, Testable, NothingBetter};
+ghost use Rattle.hopeless.specs.Hopeless.{Above, leastBought, Closed, Comparable, Closable, Testable, NothingBetter};
 use book::Order;
 use charges::Prices;
 use charges::Sums;
@@ -14,7 +14,7 @@ use money::Blanks;
 use money::CentsPerBlank;
 
 // Whether no division lies within these sums: the starts pass what the order takes, or the ends do not reach the demand. Starts up to the
-// demand pass nothing and are told apart first, since this is asked most.
+// demand pass nothing: `passes` is not called for them, since this test runs most often.
 fn apart(order: Order, x: Sums) -> bool
     ensures { λ r. ⌜ (r ≡ true → (mostOf order < x .low .0) ⊎ (x .high .0 ≤ order .demand .0)) ⌝ }
     ensures { λ r. ⌜ (r ≡ false → order .demand .0 < x .high .0) ⌝ }
@@ -28,14 +28,24 @@ fn apart(order: Order, x: Sums) -> bool
     x.high.0 <= order.demand.0
 }
 
-// Whether by a price of a blank n bidders with these charges cost more than so many cents; or as many, where ties are lost.
-fn dear(order: Order, n: usize, price: CentsPerBlank, charged: u64, cents: u64, ties: bool) -> bool
-    requires { ⌜ Comparable (order .demand .0) n (price .0) charged cents ⌝ }
-    ensures { λ r. ⌜ (r ≡ true → Above order n (price .0) charged cents ties) ⌝ }
+// What is bought at least within these sums: the demand, or the starts where they pass it.
+fn least_bought(order: Order, x: Sums) -> Blanks
+    ensures { λ r. ⌜ r .0 ≡ leastBought order x ⌝ }
 {
-    let demand = order.demand;
+    if order.demand.0 < x.low.0 {
+        return Blanks(x.low.0);
+    }
+    Blanks(order.demand.0)
+}
+
+// Whether by a price of a blank n bidders with these charges, who sell so many blanks at least, cost more than so many cents; or as many, where
+// ties are lost.
+fn dear(least: Blanks, n: usize, price: CentsPerBlank, charged: u64, cents: u64, ties: bool) -> bool
+    requires { ⌜ Comparable (least .0) n (price .0) charged cents ⌝ }
+    ensures { λ r. ⌜ (r ≡ true → Above (least .0) n (price .0) charged cents ties) ⌝ }
+{
     let limit = cents + charges::at_price(price, Blanks(1000000 * (n as u64)));
-    let bound = charged + charges::at_price(price, demand);
+    let bound = charged + charges::at_price(price, least);
     if ties {
         return limit <= bound;
     }
@@ -68,11 +78,12 @@ fn closed(
     let cost = best.cost;
     let cents = money::magnitude(cost);
     let a = prices.first;
-    if dear(order, n, a, x.first, cents, ties) {
+    let least = least_bought(order, x);
+    if dear(least, n, a, x.first, cents, ties) {
         return true;
     }
     let b = prices.second;
-    dear(order, n, b, x.second, cents, ties)
+    dear(least, n, b, x.second, cents, ties)
 }
 
 // Whether the search can go on with a choice for the first `at` of n bidders only to leave the best so far as it is: with each class of

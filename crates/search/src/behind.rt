@@ -1,7 +1,7 @@
 // Whether a division wins every tie against a choice.
 ghost use mathlib.Core.Path.{_≡_};
-ghost use mathlib.Core.Bool.{true};
-ghost use Prim.Native.Nat.{_≤_, max};
+ghost use Prim.Native.Nat.{max};
+ghost use lib.Dec.{leb};
 ghost use lib.ListN.{take};
 ghost use Rattle.divisions.specs.Award.{givesMore};
 ghost use Rattle.choices.specs.Choice.{starts, endsInOrder};
@@ -31,7 +31,7 @@ fn ends(c: Choice) -> [Blanks; 8]
 // demand. It is pub, as `behind` is, for the search's test of ties.
 pub fn no_more_blanks(order: Order, c: Choice, best: MaybeDivision) -> bool
     requires { ⌜ Sound c ⌝ }
-    ensures { λ r. ⌜ (r ≡ true → best .bought .0 ≤ max (order .demand .0) (starts (chosen c))) ⌝ }
+    ensures { λ r. ⌜ r ≡ leb (best .bought .0) (max (order .demand .0) (starts (chosen c))) ⌝ }
 {
     if best.bought.0 <= order.demand.0 {
         return true;

@@ -1,3 +1,4 @@
 pub mod Steps
 pub mod Left
 pub mod Answers
+pub mod Divided

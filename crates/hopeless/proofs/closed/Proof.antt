@@ -14,7 +14,7 @@ use Rattle.charges.specs.declared.Sums.{Sums}
 use Rattle.charges.specs.Charge.{highest, mostCharge}
 use Rattle.charges.specs.Records.{UpTo, sumsWith}
 use Rattle.charges.proofs.Sizes.{up-to-small, up-to-with}
-use Rattle.hopeless.specs.Hopeless.{Above, empty, passed, short, dearFirst, dearSecond, Comparable}
+use Rattle.hopeless.specs.Hopeless.{Above, leastBought, empty, passed, short, dearFirst, dearSecond, Comparable}
 use Rattle.hopeless.proofs.closed.Statement.{statement}
 use Rattle.hopeless.proofs.closed.Tie as tie
 
@@ -25,7 +25,7 @@ start c = c .before .before .before .before
 abbrev tested : tie.After-a → tie.After-apart
 tested c = c .before .before .before .before .before .before
 
-abbrev second : tie.After-b → tie.After-a
+abbrev second : tie.After-b → tie.After-least-bought
 second c = c .before .before .before
 
 -- the sums together are small
@@ -48,23 +48,32 @@ cents-fit : (c : tie.After-a) → c .before .magnitude .result ≤ 2 ^ 63
 cents-fit c = omega (arith, cents c, fits-size _ (fits (start (tested c))))
 
 -- what `dear` tells, of the sums and the cost
-told : (c : tie.After-a) (l : ℕ) (part : Sums → ℕ)
-    → let a = start (tested c) .args in
-    Above (a .order) (a .n) l (part (tested c .before .plus .result)) (c .before .magnitude .result) (a .ties)
-    → Above (a .order) (a .n) l (part (sumsWith (a .sums) (a .class))) (natAbs (a .best .cost .0)) (a .ties)
+told : (c : tie.After-least-bought) (l : ℕ) (part : Sums → ℕ)
+    → let a = start (tested (c .before)) .args in
+    Above (c .least-bought .result .0) (a .n) l (part (tested (c .before) .before .plus .result)) (c .before .before .magnitude .result) (a .ties)
+    → Above (leastBought (a .order) (sumsWith (a .sums) (a .class))) (a .n) l (part (sumsWith (a .sums) (a .class))) (natAbs (a .best .cost .0)) (a .ties)
 told c l part h =
-    let a = start (tested c) .args in
-    let x = tested c .before .plus .result in
-    subst (λ (y : Sums). Above (a .order) (a .n) l (part y) (natAbs (a .best .cost .0)) (a .ties)) (tested c .before .plus .ensures)
-    (subst (λ (m : ℕ). Above (a .order) (a .n) l (part x) m (a .ties)) (cents c) h)
+    let t = tested (c .before) in
+    let a = start t .args in
+    let x = t .before .plus .result in
+    subst (λ (y : Sums). Above (leastBought (a .order) y) (a .n) l (part y) (natAbs (a .best .cost .0)) (a .ties)) (t .before .plus .ensures)
+    (subst (λ (k : ℕ). Above k (a .n) l (part x) (natAbs (a .best .cost .0)) (a .ties)) (c .least-bought .ensures)
+    (subst (λ (m : ℕ). Above (c .least-bought .result .0) (a .n) l (part x) m (a .ties)) (cents (c .before)) h))
 
 -- what `dear` asks, for a price and its charges
-asked : (c : tie.After-a) (l charged : ℕ) → l ≤ highest → charged ≤ mostCharge * 17
-    → Comparable (start (tested c) .args .order .demand .0) (start (tested c) .args .n) l charged (c .before .magnitude .result)
+asked : (c : tie.After-least-bought) (l charged : ℕ) → l ≤ highest → charged ≤ mostCharge * 17
+    → Comparable (c .least-bought .result .0) (start (tested (c .before)) .args .n) l charged (c .before .before .magnitude .result)
 asked c l charged capped most =
-    let t = tested c in
-    let near = t .apart .ensures .1 (c .before .before .before .before .before .if2 .left) in
-    record { in-reach = omega (arith, near, small t .high); few = start t .pre .few; capped = capped; small = omega (arith, most); price = cents-fit c }
+    let f = c .before in
+    let t = tested f in
+    let near = t .apart .ensures .1 (f .before .before .before .before .before .if2 .left) in
+    record {
+      in-reach = omega (arith, c .least-bought .ensures, near, small t .low, small t .high);
+      few = start t .pre .few;
+      capped = capped;
+      small = omega (arith, most);
+      price = cents-fit f;
+    }
 
 returns : tie.Need-returns
 returns c = λ _. empty (c .if1 .taken)
@@ -83,20 +92,22 @@ returns-3 : tie.Need-returns-3
 returns-3 c = λ e. absurd (false≢true e)
 
 dear-requires : tie.Need-dear-requires
-dear-requires c κs = asked c _ _ (start (tested c) .pre .capped .first) (small (tested c) .first)
+dear-requires c κs = asked c _ _ (start (tested (c .before)) .pre .capped .first) (small (tested (c .before)) .first)
 
 returns-4 : tie.Need-returns-4
 returns-4 c =
     let f = c .before .before in
-    λ _. dearFirst (is-found f) (told f _ (λ (x : Sums). x .first) (c .before .dear .ensures (c .if4 .taken)))
+    λ _. dearFirst (is-found (f .before)) (told f _ (λ (x : Sums). x .first) (c .before .dear .ensures (c .if4 .taken)))
 
 dear-requires-2 : tie.Need-dear-requires-2
-dear-requires-2 c κs = let f = second c in asked f _ _ (start (tested f) .pre .capped .second) (small (tested f) .second)
+dear-requires-2 c κs =
+    let f = second c in
+    asked f _ _ (start (tested (f .before)) .pre .capped .second) (small (tested (f .before)) .second)
 
 returns-5 : tie.Need-returns-5
 returns-5 c =
     let f = second (c .before) in
-    λ e. dearSecond (is-found f) (told f _ (λ (x : Sums). x .second) (c .dear2 .ensures e))
+    λ e. dearSecond (is-found (f .before)) (told f _ (λ (x : Sums). x .second) (c .dear2 .ensures e))
 
 pub closed-spec : {M : Type 1} → statement M
 closed-spec =
@@ -107,6 +118,7 @@ closed-spec =
     (λ c κs. search needs)
     returns-2
     returns-3
+    (λ c κs. search needs)
     (λ c κs. search needs)
     dear-requires
     returns-4

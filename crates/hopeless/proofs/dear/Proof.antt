@@ -10,25 +10,25 @@ use Rattle.hopeless.specs.Hopeless.{Comparable}
 use Rattle.hopeless.proofs.dear.Statement.{statement}
 use Rattle.hopeless.proofs.dear.Tie as tie
 
-module _ {demand n l charged cents : ℕ} (asked : Comparable demand n l charged cents) where
+module _ {least n l charged cents : ℕ} (asked : Comparable least n l charged cents) where
   all-blanks : l * (million * n) ≤ highest * 8000000
   all-blanks = let few : million * n ≤ 8000000 = omega (arith, asked .few) in mul-le-mul (asked .capped) few
 
-  demanded : l * demand ≤ highest * 20000000
-  demanded = mul-le-mul (asked .capped) (asked .in-reach)
+  sold : l * least ≤ highest * 20000000
+  sold = mul-le-mul (asked .capped) (asked .in-reach)
 
 add-limit : tie.Need-add-limit
-add-limit c = omega (arith, c .at-price .ensures, all-blanks (c .before .before .pre), c .before .before .pre .price)
+add-limit c = omega (arith, c .at-price .ensures, all-blanks (c .before .pre), c .before .pre .price)
 
 add-bound : tie.Need-add-bound
-add-bound c = omega (arith, c .at-price2 .ensures, demanded (c .before .before .before .pre), c .before .before .before .pre .small)
+add-bound c = omega (arith, c .at-price2 .ensures, sold (c .before .before .pre), c .before .before .pre .small)
 
 -- Places: what is compared, the cost of the best so far and what the charges say, as the code has them.
 abbrev limit : tie.After-at-price2 → ℕ
-limit c = c .before .before .before .args .cents + c .before .at-price .result
+limit c = c .before .before .args .cents + c .before .at-price .result
 
 abbrev bound : tie.After-at-price2 → ℕ
-bound c = c .before .before .before .args .charged + c .at-price2 .result
+bound c = c .before .before .args .charged + c .at-price2 .result
 
 returns : tie.Need-returns
 returns c =

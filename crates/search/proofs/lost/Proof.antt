@@ -2,7 +2,7 @@
 use Prim.Native.Nat.{ℕ}
 use mathlib.Core.Bool.{true, false≢true}
 use mathlib.Core.Path.{_≡_, sym, _∙_, subst}
-use borrow.Author.Tests.{not-false}
+use borrow.Author.Tests.{not-false, leb-true}
 use lib.ListN.{take}
 use Rattle.divisions.specs.Award.{givesMore}
 use Rattle.choices.specs.Choice.{endsInOrder}
@@ -38,7 +38,7 @@ returns-3 c =
     let a = f .before .args in
     let more = sym (b .behind .ensures) ∙ not-false _ (c .before .if2 .left) in (
       λ e. record {
-        few = f .no-more-blanks .ensures (not-false _ (b .before .if1 .left));
+        few = leb-true _ _ (sym (f .no-more-blanks .ensures) ∙ not-false _ (b .before .if1 .left));
         more = subst (λ (k : ℕ). givesMore (take k (blanksIn (a .best .quantities))) (endsInOrder (chosen (a .c))) ≡ true) (sym (length-chosen (a .c))) more;
       },
       λ e. c .hopeless .ensures e,
