@@ -1,4 +1,4 @@
--- The divisions of a book, and its award in the words of demand 3.
+-- The divisions of a book, and its award in the words of demand 3 and of document 02, change 5.
 use Prim.Native.Nat.{ℕ}
 use mathlib.Core.List.{List}
 use Rattle.book.specs.Entries.{BookEntries}
@@ -7,7 +7,7 @@ use Rattle.divisions.specs.Division.{Division}
 use Rattle.divisions.specs.Award.{Priced}
 use Rattle.divisions.specs.IsAward.{IsAward}
 
--- every way to divide among the bids what the order takes
+-- every way to divide among the bids at least the demand and at most demand plus allowance
 abbrev pub DivisionOf : BookEntries → List ℕ → Type 0
 DivisionOf b rs = Division (b .order) (suppliesOf (b .bids)) rs
 

@@ -91,7 +91,8 @@ pub extern "C" fn boccelarch_room(text: &[u8], place: &mut u64, bytes: &mut u64)
     refusal::number(verdict)
 }
 
-// The price of a proposed split, one quantity for each bid, and 1 if its quantities add up to the demand, else 0.
+// The price of a proposed split, one quantity for each bid, and 1 if its quantities add up to at least the demand and at most
+// demand plus allowance, else 0.
 #[no_mangle]
 pub extern "C" fn boccelarch_split(
     text: &[u8],

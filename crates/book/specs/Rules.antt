@@ -1,5 +1,5 @@
--- Rules 3 to 8 of document 01, section "What is turned down", with the carriage and the allowance of document 02, changes 2 and 5: the first fault of a book, its
--- rule and its line.
+-- Rules 3 to 8 of document 01, section "What is turned down", with the carriage and the allowance of document 02, changes 2 and 5: the
+-- first fault of a book, its rule and its line.
 -- Lines are taken from the first, and in a line the rules by their numbers. The demand is line 1, the first bid line 2.
 use Prim.Native.Nat.{ℕ, _+_}
 use mathlib.Core.Bool.{Bool, true, _&&_}

@@ -17,11 +17,11 @@ emptySegment = record { start = record { 0 = 0 }; end = record { 0 = 0 }; unit =
 abbrev pub emptyBid : Bid
 emptyBid = record { bidder = 0; carriage = record { 0 = 0 }; count = 0; segments = replicate 6 emptySegment }
 
-abbrev pub noOrder : Order
-noOrder = record { demand = record { 0 = 0 }; allowance = record { 0 = 0 } }
+abbrev pub emptyOrder : Order
+emptyOrder = record { demand = record { 0 = 0 }; allowance = record { 0 = 0 } }
 
 abbrev pub emptyBook : Book
-emptyBook = record { order = noOrder; count = 0; bids = replicate 8 emptyBid }
+emptyBook = record { order = emptyOrder; count = 0; bids = replicate 8 emptyBid }
 
 unfoldable pub bidRecord : BidEntries → Bid
 bidRecord b = record { bidder = b .bidder; carriage = record { 0 = b .carriage }; count = b .count; segments = padded 6 emptySegment (b .segments) }

@@ -61,7 +61,7 @@ fn charge_at(s: Segment, quantity: Blanks, price: CentsPerBlank) -> u64
     cents + rest
 }
 
-// What a segment is charged that is cut at an end: as its start or that end, whichever is less.
+// The charge of a segment up to `end`: that of its start or of `end`, whichever is less.
 fn charge_to(s: Segment, end: Blanks, price: CentsPerBlank) -> u64
     requires { ⌜ ChargeableAt s (end .0) (price .0) ⌝ }
     ensures { λ r. ⌜ r ≡ min (chargeAt (price .0) s (s .start .0)) (chargeAt (price .0) s (end .0)) ⌝ }
@@ -72,7 +72,7 @@ fn charge_to(s: Segment, end: Blanks, price: CentsPerBlank) -> u64
     smaller(at_start, at_end)
 }
 
-// What a segment is charged, cut at what the order takes. It is pub for the hints.
+// What a segment is charged up to its end, cut at demand plus allowance. It is pub for the hints.
 pub fn charge(s: Segment, order: Order, price: CentsPerBlank) -> u64
     requires { ⌜ Chargeable s (price .0) ⌝ }
     ensures { λ r. ⌜ r ≡ charge order (price .0) s ⌝ }

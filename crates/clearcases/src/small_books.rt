@@ -1,4 +1,5 @@
-// Small books made by a fixed rule: demands from 1 to 8, allowances from 0 to 3 as far as both together are at most 8, one to three bids of one to three segments, with carriages from 0 to 3.
+// Small books made by a fixed rule: demands from 1 to 8, allowances from 0 to 3 as far as both together are at most 8, one to
+// three bids of one to three segments, with carriages from 0 to 3.
 // The rule goes from a number to the next, and takes several small numbers from each by division and remainder.
 ghost use Prim.Native.Nat.{_+_, _≤_};
 use book::Bid;

@@ -86,7 +86,7 @@ fn add_class(table: &mut [u64; 1152], at: usize, x: Sums, most: u64)
     put_class(table, k, joined(here, x));
 }
 
-// A class of the bidders after `at`, with one segment more. What passes the order is left out.
+// A class of the bidders after `at`, with one segment more. What is above demand plus allowance is left out.
 fn with_class(table: &mut [u64; 1152], at: usize, class: Sums, more: Sums, order: Order, most: u64)
     requires { ⌜ ClassExtendable (now table) at class more ⌝ }
     ensures { λ _. ⌜ ClassExtended order at class more (now (table .entry)) (now (table .exit)) ⌝ }

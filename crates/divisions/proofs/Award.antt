@@ -20,7 +20,7 @@ use Rattle.divisions.proofs.Order.{Wins, better-cases, better-cost, bet
 use Rattle.divisions.proofs.IsBest.{IsBest, best-iff, best-unique, best-listed}
 use Rattle.divisions.proofs.Listed.{listed-iff}
 
--- a division with its cost
+-- a division with its cost and its blanks
 pub record PricedDivision (order : Order) (supplies : List (List Segment)) (d : Priced) : Type 0 where
   pub division : Division order supplies (d .quantities)
   pub cost : d .cost ≡ costOf supplies (d .quantities)

@@ -1,4 +1,5 @@
--- The award (document 01, section "Price and allocation", and document 02, change 5): the best of all divisions. Nothing here depends on how it is found.
+-- The award (document 01, section "Price and allocation", and document 02, change 5): the best of all divisions. Nothing here
+-- depends on how it is found.
 use Prim.Native.Nat.{ℕ}
 use mathlib.Core.Bool.{Bool, true, false, cond, _&&_, _||_}
 use mathlib.Core.List.{List, [], _∷_, map}

@@ -1,4 +1,5 @@
--- Document 01's allocation and division, section "Price and allocation", of bidders with these supply functions, in book order.
+-- Document 01's allocation and division, section "Price and allocation", of bidders with these supply functions, in book order,
+-- the division as document 02, change 5, has it.
 use Prim.Native.Nat.{ℕ}
 use mathlib.Core.Bool.{true}
 use mathlib.Core.List.{List, [], _∷_}
@@ -16,7 +17,7 @@ Allocation [] (r ∷ rs) = ⊥
 Allocation (ss ∷ supplies) [] = ⊥
 Allocation (ss ∷ supplies) (r ∷ rs) = (offers ss r ≡ true) × Allocation supplies rs
 
--- a division is an allocation whose quantities add up to what the order takes
+-- a division is an allocation whose quantities add up to at least the demand and at most demand plus allowance
 pub record Division (order : Order) (supplies : List (List Segment)) (rs : List ℕ) : Type 0 where
   pub allocation : Allocation supplies rs
   pub sum : meets order (bought rs) ≡ true

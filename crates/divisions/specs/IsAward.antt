@@ -1,5 +1,5 @@
--- Demand 3's words for the award, with those of document 02, change 5. That `IsAward` fixes it is proved in proofs/Award.antt; that at most one bidder of it stands strictly
--- inside, in choices/proofs/OneInside.antt.
+-- Demand 3's words for the award, with those of document 02, change 5. That `IsAward` fixes it is proved in
+-- proofs/Award.antt; that at most one bidder of it stands strictly inside, in choices/proofs/OneInside.antt.
 use Prim.Native.Nat.{ℕ, _+_, _<_}
 use mathlib.Core.Bool.{cond}
 use mathlib.Core.List.{List, [], _∷_}

@@ -19,6 +19,6 @@ unfoldable pub allocations : ℕ → List (List Segment) → List (List ℕ)
 allocations most [] = [] ∷ []
 allocations most (ss ∷ supplies) = joined (λ r. map (λ (rs : List ℕ). r ∷ rs) (allocations most supplies)) (those (offers ss) (downFrom most))
 
--- those whose quantities add up to what the order takes
+-- those whose quantities add up to at least the demand and at most demand plus allowance
 unfoldable pub divisions : Order → List (List Segment) → List (List ℕ)
 divisions order supplies = those (λ rs. meets order (bought rs)) (allocations (mostOf order) supplies)

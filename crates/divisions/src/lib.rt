@@ -1,1 +1,1 @@
-// The divisions of a demand among bidders, and the award, the best of them (specs/ and proofs/); no code.
+// The divisions of an order among bidders, and the award, the best of them (specs/ and proofs/); no code.

@@ -1,4 +1,4 @@
--- Demand 3's words for the award of a book, as its record shows it, sampled by a table.
+-- The words of demand 3 and of document 02, change 5, for the award of a book, as its record shows it, sampled by a table.
 use Prim.Native.Nat.{ℕ, _≤_, _<_}
 use mathlib.Core.List.{List, []}
 use mathlib.Core.Path.{_≡_}

@@ -75,7 +75,7 @@ fn extra(c: Choice, i: usize, left: Blanks) -> Blanks
     Blanks(over)
 }
 
-// What the demand leaves over the starts: nothing where these pass it.
+// What the demand leaves over the starts: nothing where these reach or pass it.
 fn left_over(order: Order, starts: Blanks) -> Blanks
     ensures { λ r. ⌜ r .0 ≡ order .demand .0 - starts .0 ⌝ }
 {
@@ -85,8 +85,8 @@ fn left_over(order: Order, starts: Blanks) -> Blanks
     Blanks(0)
 }
 
-// The cheapest quantities within a choice that fits: from the last bidder to the first, each gets its
-// start and its extra of what is left.
+// The best quantities within a choice that fits, as many as the demand, or as the starts where these
+// pass it: from the last bidder to the first, each gets its start and its extra of what is left.
 pub fn fill(c: Choice, order: Order) -> MaybeDivision
     requires { ⌜ Fillable c order ⌝ }
     ensures { λ r. ⌜ r .found ≡ true ⌝ }

@@ -26,7 +26,8 @@ quantitiesVerdict line (b ∷ bs) (r ∷ rs) = firstOf (unless (offers (supplyOf
 unfoldable pub splitVerdict : BookEntries → List ℕ → Verdict
 splitVerdict b rs = firstOf (bookVerdict b ∷ quantitiesVerdict 2 (b .bids) rs ∷ [])
 
--- the price, and yes if and only if the quantities add up to what the order takes; price 0 and no beside a refusal
+-- the price, and yes if and only if the quantities add up to at least the demand and at most demand plus allowance; price 0 and no
+-- beside a refusal
 unfoldable pub splitOf : BookEntries → List ℕ → SplitPrice
 splitOf b rs = record {
   verdict = splitVerdict b rs;

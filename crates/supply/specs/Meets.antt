@@ -1,4 +1,4 @@
--- Which numbers of blanks an order takes: document 02, change 5. Divisions, splits and the search go by this alone.
+-- Which numbers of blanks an order takes: document 02, change 5. Divisions and splits name `meets`; the search names `mostOf` and the demand.
 use Prim.Native.Nat.{ℕ, _+_}
 use mathlib.Core.Bool.{Bool}
 use Rattle.book.specs.declared.Order.{Order}

@@ -1,4 +1,5 @@
-// A bid's supply function: which quantities it offers, and at what price, carriage with it.
+// A bid's supply function: which quantities it offers, and at what price, carriage with it; and how many blanks an order takes
+// (order.rt).
 ghost use mathlib.Core.Path.{_≡_};
 ghost use Prim.Native.Nat.{_+_, _^_, _<_};
 ghost use lib.ListN.{length, getD};

@@ -34,7 +34,7 @@ pub fn meets(order: Order, blanks: Blanks) -> bool
     reaches(order, blanks)
 }
 
-// So many, or the most that it takes where that is less.
+// So many, or the most that it takes where that is less: the sum is then below them and does not wrap.
 pub fn capped(order: Order, blanks: Blanks) -> Blanks
     ensures { λ r. ⌜ r .0 ≡ min (blanks .0) (mostOf order) ⌝ }
 {

@@ -1,4 +1,4 @@
--- The total without a bidder: document 01, section "The sheet".
+-- The total without a bidder: document 01, section "The sheet", with the order of the book (document 02, change 5).
 use Prim.Native.Nat.{ℕ, suc, _-_, _≤_, _<_}
 use mathlib.Core.List.{_++_}
 use mathlib.Core.Option.{Option, some, none}

@@ -1,4 +1,5 @@
--- What document 01 says of its cases holds of the definitions, from the text to the bytes that are printed. Assumes nothing.
+-- What document 01 says of its cases marked P, and what is printed in four cases of document 02, change 5, holds of the definitions, from
+-- the text to the bytes that are printed. Assumes nothing.
 use Prim.Native.Nat.{ℕ}
 use mathlib.Core.Bool.{true, false≢true}
 use mathlib.Core.List.{List, [], _∷_}

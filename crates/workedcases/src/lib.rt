@@ -1,1 +1,2 @@
-// The cases of document 01 that are marked P, from the text to what is printed: one table and one proof (specs/ and proofs/); no code.
+// The cases of document 01 that are marked P, and four cases of document 02, change 5, from the text to what is printed: one table
+// and one proof (specs/ and proofs/); no code.
