@@ -1,6 +1,6 @@
--- The cases of document 01, section "Cases", that are marked P, and four cases of document 02, change 5: the text of a book, and what
--- is printed for it, byte for byte. The columns that document 01 does not print for a case (segment, price, sample, total without) follow from its rules; what is bought stands after the
--- demand since document 02, change 5.
+-- The cases of document 01, section "Cases", that are marked P, and four cases of document 02, change 5: the text of a book, and what is
+-- printed for it, byte for byte. The columns that document 01 does not print for a case (segment, price, sample, total without) follow from
+-- its rules; what is bought stands after the demand since document 02, change 5.
 use Prim.Native.Nat.{ℕ}
 use Prim.Native.String.{String}
 use mathlib.Core.List.{List, [], _∷_, _++_}
