@@ -40,7 +40,7 @@ use Rattle.comparison.specs.Records.{blanksIn, divisionIn, found}
 use Rattle.charges.specs.declared.Prices.{Prices}
 use Rattle.charges.specs.declared.Sums.{Sums}
 use Rattle.charges.specs.Charge.{million, charges}
-use Rattle.charges.specs.Records.{SumsOf, sumsWith}
+use Rattle.charges.specs.Records.{SumsOf}
 use Rattle.charges.proofs.Bound.{charges-below}
 use Rattle.completions.specs.Classes.{classAt, classCount, Admits}
 use Rattle.hopeless.specs.Hopeless.{WinsTies, Above, leastBought, Closed, empty, passed, short, dearFirst, dearSecond, NothingBetter}
@@ -117,7 +117,7 @@ module _ (order : Order) (n : ℕ) (prices : Prices) (c : List Segment) (sound :
     -- it sells the demand at least, and the starts of the choice and what the class has
     at-least : (sums class : Sums) → SumsOf order prices c sums
         → Admits class (bought (placed e ys)) (charges order (prices .first .0) e) (charges order (prices .second .0) e)
-        → leastBought order (sumsWith sums class) ≤ whole .blanks
+        → leastBought order (sums .low .0 + class .low .0) ≤ whole .blanks
     at-least sums class s a = omega (arith, p .enough, s .low, a .low, placed-bought c (p .extras) (p .box))
 
     -- its way to complete the choice is of a class that is closed

@@ -22,7 +22,7 @@ use Rattle.comparison.specs.Records.{blanksIn, found}
 use Rattle.charges.specs.declared.Prices.{Prices}
 use Rattle.charges.specs.declared.Sums.{Sums}
 use Rattle.charges.specs.Charge.{million, highest}
-use Rattle.charges.specs.Records.{Capped, SumsOf, UpTo, sumsWith}
+use Rattle.charges.specs.Records.{Capped, SumsOf, UpTo}
 use Rattle.completions.specs.Classes.{Covers, Graded}
 
 -- The best so far wins every tie against a choice: it has no more blanks than any division of it, which gives each bidder its start and
@@ -37,9 +37,9 @@ abbrev pub Above : (least n l charged cents : ℕ) → Bool → Type 0
 Above least n l charged cents ties =
     (cents + l * (million * n) < charged + l * least) ⊎ ((ties ≡ true) × (cents + l * (million * n) ≤ charged + l * least))
 
--- what is bought at least within these sums: the demand, or the starts where they pass it
-abbrev pub leastBought : Order → Sums → ℕ
-leastBought order x = max (order .demand .0) (x .low .0)
+-- what is bought at least with starts that add up to so many: the demand, or these where they pass it
+abbrev pub leastBought : Order → ℕ → ℕ
+leastBought order low = max (order .demand .0) low
 
 -- of a choice with these sums and a class of ways to complete it nothing is better than the best so far
 pub data Closed (order : Order) (n : ℕ) (prices : Prices) (sums class : Sums) (ties : Bool) (best : MaybeDivision) : Type 0 where
@@ -50,9 +50,9 @@ pub data Closed (order : Order) (n : ℕ) (prices : Prices) (sums class : Sums) 
   -- the ends do not reach the demand; a class does not count its `high`
   short : sums .high .0 + class .high .0 ≤ order .demand .0 → Closed order n prices sums class ties best
   -- every division costs too much, by the first price or by the second
-  dearFirst : best .found ≡ true → Above (leastBought order (sumsWith sums class)) n (prices .first .0) (sums .first + class .first) (natAbs (best .cost .0)) ties
+  dearFirst : best .found ≡ true → Above (leastBought order (sums .low .0 + class .low .0)) n (prices .first .0) (sums .first + class .first) (natAbs (best .cost .0)) ties
       → Closed order n prices sums class ties best
-  dearSecond : best .found ≡ true → Above (leastBought order (sumsWith sums class)) n (prices .second .0) (sums .second + class .second) (natAbs (best .cost .0)) ties
+  dearSecond : best .found ≡ true → Above (leastBought order (sums .low .0 + class .low .0)) n (prices .second .0) (sums .second + class .second) (natAbs (best .cost .0)) ties
       → Closed order n prices sums class ties best
 
 -- what `dear` asks: numbers of at most eight bidders, so that nothing wraps

@@ -13,29 +13,28 @@ use comparison::MaybeDivision;
 use money::Blanks;
 use money::CentsPerBlank;
 
-// Whether no division lies within these sums: the starts pass what the order takes, or the ends do not reach the demand. Starts up to the
-// demand pass nothing: `passes` is not called for them, since this test runs most often.
-fn apart(order: Order, x: Sums) -> bool
-    ensures { λ r. ⌜ (r ≡ true → (mostOf order < x .low .0) ⊎ (x .high .0 ≤ order .demand .0)) ⌝ }
-    ensures { λ r. ⌜ (r ≡ false → order .demand .0 < x .high .0) ⌝ }
+// Whether no division has its starts and its ends add up so: the starts pass what the order takes, or the ends do not reach the demand. Starts
+// up to the demand pass nothing: `passes` is not called for them, since this test runs most often.
+fn apart(order: Order, low: Blanks, high: Blanks) -> bool
+    ensures { λ r. ⌜ (r ≡ true → (mostOf order < low .0) ⊎ (high .0 ≤ order .demand .0)) ⌝ }
+    ensures { λ r. ⌜ (r ≡ false → order .demand .0 < high .0) ⌝ }
 {
-    let low = x.low;
     if order.demand.0 < low.0 {
         if supply::passes(order, low) {
             return true;
         }
     }
-    x.high.0 <= order.demand.0
+    high.0 <= order.demand.0
 }
 
-// What is bought at least within these sums: the demand, or the starts where they pass it.
-fn least_bought(order: Order, x: Sums) -> Blanks
-    ensures { λ r. ⌜ r .0 ≡ leastBought order x ⌝ }
+// What is bought at least with these starts: the demand, or the starts where they pass it.
+fn least_bought(order: Order, low: Blanks) -> Blanks
+    ensures { λ r. ⌜ r .0 ≡ leastBought order (low .0) ⌝ }
 {
-    if order.demand.0 < x.low.0 {
-        return Blanks(x.low.0);
+    if order.demand.0 < low.0 {
+        return low;
     }
-    Blanks(order.demand.0)
+    order.demand
 }
 
 // Whether by a price of a blank n bidders with these charges, who sell so many blanks at least, cost more than so many cents; or as many, where
@@ -69,7 +68,9 @@ fn closed(
         return true;
     }
     let x = charges::plus(sums, class);
-    if apart(order, x) {
+    let low = x.low;
+    let high = x.high;
+    if apart(order, low, high) {
         return true;
     }
     if !best.found {
@@ -78,7 +79,7 @@ fn closed(
     let cost = best.cost;
     let cents = money::magnitude(cost);
     let a = prices.first;
-    let least = least_bought(order, x);
+    let least = least_bought(order, low);
     if dear(least, n, a, x.first, cents, ties) {
         return true;
     }

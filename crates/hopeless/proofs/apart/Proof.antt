@@ -12,8 +12,8 @@ returns c = (λ e. inl (ltb-true _ _ (sym (c .before .passes .ensures) ∙ c .if
 
 returns-2 : tie.Need-returns-2
 returns-2 c =
-    let a = c .before .before .before .before .before .before .args in
-    (λ e. inr (leb-true (a .x .high .0) (a .order .demand .0) e), λ e. leb-false (a .x .high .0) (a .order .demand .0) e)
+    let a = c .before .before .before .before .before .args in
+    (λ e. inr (leb-true (a .high .0) (a .order .demand .0) e), λ e. leb-false (a .high .0) (a .order .demand .0) e)
 
 pub apart-spec : {M : Type 1} → statement M
 apart-spec = tie.close (tie.spec (λ c κs. search needs) returns returns-2)

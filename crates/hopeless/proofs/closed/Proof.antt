@@ -1,5 +1,5 @@
 -- Each test gives its reason, and where the sums meet the demand nothing wraps.
-use Prim.Native.Nat.{ℕ, _*_, _^_, _≤_}
+use Prim.Native.Nat.{ℕ, _+_, _*_, _^_, _≤_}
 use native.Mathlib.Omega.{arith}
 use mathlib.Core.Bool.{true, false≢true}
 use mathlib.Core.Logic.{⊎-elim}
@@ -20,7 +20,10 @@ use Rattle.hopeless.proofs.closed.Tie as tie
 
 -- Places, seen from later ones: the start and the sums together from the first test of them, and this test from what follows it.
 abbrev start : tie.After-apart → tie.Start
-start c = c .before .before .before .before
+start c = c .before .before .before .before .before .before
+
+abbrev summed : tie.After-apart → tie.After-plus
+summed c = c .before .before .before
 
 abbrev tested : tie.After-a → tie.After-apart
 tested c = c .before .before .before .before .before .before
@@ -29,10 +32,10 @@ abbrev second : tie.After-b → tie.After-least-bought
 second c = c .before .before .before
 
 -- the sums together are small
-small : (c : tie.After-apart) → UpTo 17 (c .before .plus .result)
+small : (c : tie.After-apart) → UpTo 17 (summed c .plus .result)
 small c =
     let s = start c in
-    subst (UpTo 17) (sym (c .before .plus .ensures)) (up-to-with 8 8 (s .args .sums) (s .args .class) (s .pre .chosen) (s .pre .left))
+    subst (UpTo 17) (sym (summed c .plus .ensures)) (up-to-with 8 8 (s .args .sums) (s .args .class) (s .pre .chosen) (s .pre .left))
 
 -- the best so far is found, its cents are those of its cost, and they fit
 is-found : (c : tie.After-a) → start (tested c) .args .best .found ≡ true
@@ -50,13 +53,13 @@ cents-fit c = omega (arith, cents c, fits-size _ (fits (start (tested c))))
 -- what `dear` tells, of the sums and the cost
 told : (c : tie.After-least-bought) (l : ℕ) (part : Sums → ℕ)
     → let a = start (tested (c .before)) .args in
-    Above (c .least-bought .result .0) (a .n) l (part (tested (c .before) .before .plus .result)) (c .before .before .magnitude .result) (a .ties)
-    → Above (leastBought (a .order) (sumsWith (a .sums) (a .class))) (a .n) l (part (sumsWith (a .sums) (a .class))) (natAbs (a .best .cost .0)) (a .ties)
+    Above (c .least-bought .result .0) (a .n) l (part (summed (tested (c .before)) .plus .result)) (c .before .before .magnitude .result) (a .ties)
+    → Above (leastBought (a .order) (a .sums .low .0 + a .class .low .0)) (a .n) l (part (sumsWith (a .sums) (a .class))) (natAbs (a .best .cost .0)) (a .ties)
 told c l part h =
     let t = tested (c .before) in
     let a = start t .args in
-    let x = t .before .plus .result in
-    subst (λ (y : Sums). Above (leastBought (a .order) y) (a .n) l (part y) (natAbs (a .best .cost .0)) (a .ties)) (t .before .plus .ensures)
+    let x = summed t .plus .result in
+    subst (λ (y : Sums). Above (leastBought (a .order) (y .low .0)) (a .n) l (part y) (natAbs (a .best .cost .0)) (a .ties)) (summed t .plus .ensures)
     (subst (λ (k : ℕ). Above k (a .n) l (part x) (natAbs (a .best .cost .0)) (a .ties)) (c .least-bought .ensures)
     (subst (λ (m : ℕ). Above (c .least-bought .result .0) (a .n) l (part x) m (a .ties)) (cents (c .before)) h))
 
@@ -85,7 +88,7 @@ plus-requires c κs =
 
 returns-2 : tie.Need-returns-2
 returns-2 c =
-    let x = c .before .before .plus .ensures in
+    let x = summed (c .before) .plus .ensures in
     λ _. ⊎-elim (λ h. passed (rw x at h)) (λ h. short (rw x at h)) (c .before .apart .ensures .0 (c .if2 .taken))
 
 returns-3 : tie.Need-returns-3
