@@ -34,7 +34,7 @@
  *
  * A thread with a stack of 64 KB can call each of them: tests/boundary/run checks it on a book of eight bids of six segments.
  * With boccelarch_sheet, boccelarch_page and boccelarch_award, by a table or not, most books are cleared in about a millisecond or less, the
- * slowest known in 0.2 s (bench/RESULTS.md).
+ * slowest known in 0.14 s (bench/RESULTS.md).
  *
  * That the functions answer what docs/CLAIMS.md states is proved, for every text and every length.
  */
@@ -61,7 +61,7 @@ enum boccelarch_refusal {
     BOCCELARCH_BIDDER_ORDER = 6,   /* a bidder number not above the one before: the line */
     BOCCELARCH_SEGMENT_ORDER = 7,  /* a start above its end, or not above the end before: the line */
     BOCCELARCH_NEGATIVE_PRICE = 8, /* a negative price at a start, without carriage: the line */
-    BOCCELARCH_NOT_COVERED = 9,    /* no allocation adds up to from the demand to demand + allowance: 0 */
+    BOCCELARCH_NOT_COVERED = 9,    /* no allocation adds up to at least the demand and at most demand + allowance: 0 */
     BOCCELARCH_OUTPUT_LENGTH = 10, /* the output is too short: the bytes needed */
     BOCCELARCH_SPLIT_QUANTITY = 11, /* a quantity missing, neither 0 nor on a segment, or one too many: the line */
     BOCCELARCH_SAMPLING_TABLE = 12 /* a band of a sampling table that breaks a rule: the first such line */
