@@ -4,7 +4,7 @@ ghost use mathlib.Core.Path.{_≡_};
 ghost use mathlib.Core.Bool.{cond};
 ghost use lib.ListN.{length};
 ghost use Rattle.refusal.specs.Number.{numberOf, placeOf};
-ghost use Rattle.bookanswers.specs.BookAnswers.{bookWritten, bookOutput, roomText, splitText};
+ghost use Rattle.bookanswers.specs.BookAnswers.{bookWritten, bookOutput, sizesText, splitText};
 ghost use Rattle.tender.specs.FromText.{sheetWritten, sheetOutput, pageWritten, pageOutput};
 ghost use Rattle.awardnumbers.specs.Numbers.{awardVerdict, awardBought, awardTotal, awardCount, awardOutput};
 
@@ -77,17 +77,27 @@ pub extern "C" fn boccelarch_write(
     refusal::number(verdict)
 }
 
-// The room figure.
+// How long the book's text is, how many choices of segments it has, and how long its sheet is at most.
 #[no_mangle]
-pub extern "C" fn boccelarch_room(text: &[u8], place: &mut u64, bytes: &mut u64) -> u64
-    ensures { λ r. ⌜ r ≡ numberOf (roomText (now (text .entry)) .verdict) ⌝ }
-    ensures { λ _. ⌜ now (place .exit) ≡ placeOf (roomText (now (text .entry)) .verdict) ⌝ }
-    ensures { λ _. ⌜ now (bytes .exit) ≡ roomText (now (text .entry)) .bytes ⌝ }
+pub extern "C" fn boccelarch_sizes(
+    text: &[u8],
+    place: &mut u64,
+    bytes: &mut u64,
+    choices: &mut u64,
+    sheet: &mut u64,
+) -> u64
+    ensures { λ r. ⌜ r ≡ numberOf (sizesText (now (text .entry)) .verdict) ⌝ }
+    ensures { λ _. ⌜ now (place .exit) ≡ placeOf (sizesText (now (text .entry)) .verdict) ⌝ }
+    ensures { λ _. ⌜ now (bytes .exit) ≡ sizesText (now (text .entry)) .bytes ⌝ }
+    ensures { λ _. ⌜ now (choices .exit) ≡ sizesText (now (text .entry)) .choices ⌝ }
+    ensures { λ _. ⌜ now (sheet .exit) ≡ sizesText (now (text .entry)) .sheet ⌝ }
 {
-    let figure = tender::room(text);
-    let verdict = figure.verdict;
+    let figures = tender::sizes(text);
+    let verdict = figures.verdict;
     *place = refusal::place(verdict);
-    *bytes = figure.bytes;
+    *bytes = figures.bytes;
+    *choices = figures.choices;
+    *sheet = figures.sheet;
     refusal::number(verdict)
 }
 

@@ -9,14 +9,10 @@ use Rattle.book.specs.declared.Bid.{Bid}
 use Rattle.book.specs.declared.Book.{Book}
 use Rattle.book.specs.Entries.{bidEntries, bookEntries, SameBook}
 use Rattle.book.specs.Rules.{bookVerdict}
-use Rattle.book.specs.Room.{roomOf}
 use Rattle.book.proofs.Records.{noBid}
 
 pub same-verdict : (a b : Book) → SameBook a b → bookVerdict (bookEntries a) ≡ bookVerdict (bookEntries b)
 same-verdict a b e = ap bookVerdict e
-
-pub same-room : (a b : Book) → SameBook a b → roomOf (bookEntries a) ≡ roomOf (bookEntries b)
-same-room a b e = ap roomOf e
 
 -- a bid stored past the count
 pub past-bids : (b : Book) (i : ℕ) (bid : Bid) → b .count ≤ i

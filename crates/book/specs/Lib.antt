@@ -1,4 +1,3 @@
 pub mod Entries
 pub mod Rules
 pub mod Accepted
-pub mod Room

@@ -4,7 +4,6 @@
 use money::Blanks;
 use money::Cents;
 use money::CentsPerBlank;
-use refusal::Verdict;
 
 // From start to end, both counted, r blanks cost unit × r + fixed.
 pub struct Segment {
@@ -35,10 +34,4 @@ pub struct Book {
     pub order: Order,
     pub count: usize,
     pub bids: [Bid; 8],
-}
-
-// A room figure, or 0 beside a refusal.
-pub struct RoomFigure {
-    pub verdict: Verdict,
-    pub bytes: u64,
 }

@@ -3,13 +3,13 @@ use Prim.Native.Nat.{ℕ}
 use mathlib.Core.List.{List}
 use Rattle.refusal.specs.Checks.{whenAccepted}
 use Rattle.refusal.specs.declared.Verdict.{Verdict}
-use Rattle.book.specs.declared.RoomFigure.{RoomFigure}
 use Rattle.book.specs.Entries.{BookEntries, bookEntries}
-use Rattle.book.specs.Room.{roomOf}
 use Rattle.booktext.specs.BookText.{bookText}
 use Rattle.output.specs.declared.TextWritten.{TextWritten}
 use Rattle.output.specs.Writing.{writtenOf, outputAfter}
 use Rattle.bookreader.specs.Reading.{readOf}
+use Rattle.sizes.specs.declared.BookSizes.{BookSizes}
+use Rattle.sizes.specs.Sizes.{sizesOf, refusedSizes}
 use Rattle.split.specs.declared.SplitPrice.{SplitPrice}
 use Rattle.split.specs.Split.{splitOf, refusedSplit}
 
@@ -29,10 +29,10 @@ bookWritten t size = writtenOf (readOf t .verdict) (bookText (bookOf t)) size
 unfoldable pub bookOutput : List ℕ → List ℕ → List ℕ
 bookOutput t out = outputAfter (readOf t .verdict) (bookText (bookOf t)) out
 
--- ---- the room figure, and the price of a proposed split
+-- ---- the three figures, and the price of a proposed split
 
-unfoldable pub roomText : List ℕ → RoomFigure
-roomText t = answerOf roomOf (λ verdict. record { verdict = verdict; bytes = 0 }) t
+unfoldable pub sizesText : List ℕ → BookSizes
+sizesText t = answerOf sizesOf refusedSizes t
 
 unfoldable pub splitText : List ℕ → List ℕ → SplitPrice
 splitText t rs = answerOf (λ b. splitOf b rs) refusedSplit t

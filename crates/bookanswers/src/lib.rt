@@ -1,11 +1,11 @@
-// What is answered about the book of a text: the book written out again, its room figure, and the price of a proposed split of it.
+// What is answered about the book of a text: the book written out again, its sizes, and the price of a proposed split of it.
 // Each is refused first as reading refuses the text. The entries are `tender`'s.
 ghost use mathlib.Core.Path.{_≡_};
 ghost use lib.ListN.{length};
-ghost use Rattle.bookanswers.specs.BookAnswers.{bookWritten, bookOutput, roomText, splitText};
-use book::RoomFigure;
+ghost use Rattle.bookanswers.specs.BookAnswers.{bookWritten, bookOutput, sizesText, splitText};
 use output::TextWritten;
 use refusal::Verdict;
+use sizes::BookSizes;
 use split::SplitPrice;
 
 // Writes a text's book out again.
@@ -22,17 +22,17 @@ pub fn write(text: &[u8], out: &mut [u8]) -> TextWritten
     bookwriter::write(book, out)
 }
 
-// The room figure of a text's book.
-pub fn room(text: &[u8]) -> RoomFigure
-    ensures { λ r. ⌜ r ≡ roomText (now (text .entry)) ⌝ }
+// The three figures of a text's book.
+pub fn sizes(text: &[u8]) -> BookSizes
+    ensures { λ r. ⌜ r ≡ sizesText (now (text .entry)) ⌝ }
 {
     let read = bookreader::read(text);
     let verdict = read.verdict;
     if let Verdict::Refused(_, _) = verdict {
-        return RoomFigure { verdict, bytes: 0 };
+        return sizes::refused(verdict);
     }
     let book = read.book;
-    bookrules::room(book)
+    sizes::sizes(book)
 }
 
 // The price of a proposed split of a text's book.

@@ -1,15 +1,12 @@
-// A bid book checked by rules 3 to 8 of document 01, and the room figure.
+// A bid book checked by rules 3 to 8 of document 01.
 ghost use mathlib.Core.Path.{_≡_};
 ghost use Rattle.book.specs.Entries.{bookEntries};
 ghost use Rattle.book.specs.Rules.{orderInRange, bookVerdict};
-ghost use Rattle.book.specs.Room.{roomOf};
 
-mod figure;
 mod lines;
 
 use book::Book;
 use book::Order;
-use book::RoomFigure;
 use refusal::Rule;
 use refusal::Verdict;
 
@@ -43,16 +40,4 @@ pub fn check(book: Book) -> Verdict
         return Verdict::Refused(Rule::BidCount, 10);
     }
     Verdict::Accepted
-}
-
-// How many bytes the book's text takes at most: 25 + 17 for each bid + 45 for each segment.
-pub fn room(book: Book) -> RoomFigure
-    ensures { λ r. ⌜ r ≡ roomOf (bookEntries book) ⌝ }
-{
-    let verdict = check(book);
-    if let Verdict::Refused(_, _) = verdict {
-        return RoomFigure { verdict, bytes: 0 };
-    }
-    let bytes = 25 + figure::room_of_bids(book);
-    RoomFigure { verdict, bytes }
 }

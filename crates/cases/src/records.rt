@@ -18,11 +18,7 @@ pub fn answer(line: &[u8], numbers: &[u8], quantities: &[u64], out: &mut [u8]) {
             show::verdict(bookrules::check(book));
             show::line(b"");
         }
-        b'r' => {
-            let figure = bookrules::room(book);
-            let verdict = figure.verdict;
-            show::answer(verdict, figure.bytes);
-        }
+        b'f' => show::figures(sizes::sizes(book)),
         b'p' => show::price(split::price_split(book, quantities)),
         b'a' => award(Layout::Sheet, book, out),
         b'o' => award(Layout::Page, book, out),

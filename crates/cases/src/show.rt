@@ -2,6 +2,7 @@
 use money::Cents;
 use output::TextWritten;
 use refusal::Verdict;
+use sizes::BookSizes;
 use split::SplitPrice;
 
 pub fn line(text: &[u8]) {
@@ -31,6 +32,18 @@ pub fn answer(v: Verdict, n: u64) {
     verdict(v);
     io::write_all(1, b", ");
     number(n);
+}
+
+// The bytes of a book's text, its choices of segments, and the most bytes of its sheet.
+pub fn figures(s: BookSizes) {
+    let v = s.verdict;
+    verdict(v);
+    io::write_all(1, b", ");
+    io::print_decimal(1, s.bytes);
+    io::write_all(1, b", ");
+    io::print_decimal(1, s.choices);
+    io::write_all(1, b", ");
+    number(s.sheet);
 }
 
 // What a writer answered, and the whole output.

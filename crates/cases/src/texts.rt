@@ -6,11 +6,7 @@ use awardwriter::Layout;
 pub fn answer(line: &[u8], text: &[u8], quantities: &[u64], out: &mut [u8]) {
     match pieces::byte(line, 0) {
         b't' => printed(text),
-        b'r' => {
-            let figure = tender::room(text);
-            let verdict = figure.verdict;
-            show::answer(verdict, figure.bytes);
-        }
+        b'f' => show::figures(tender::sizes(text)),
         b'p' => show::price(tender::price_split(text, quantities)),
         b'a' => {
             let w = tender::sheet(text, out);
@@ -49,8 +45,8 @@ fn cuts(text: &[u8]) {
 
 // 1 for a text that is refused by rule 2 at its end.
 fn cut(text: &[u8]) -> u64 {
-    let figure = tender::room(text);
-    let verdict = figure.verdict;
+    let figures = tender::sizes(text);
+    let verdict = figures.verdict;
     let end = text.len() as u64;
     if refusal::number(verdict) == 2 {
         if refusal::place(verdict) == end {

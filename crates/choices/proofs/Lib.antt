@@ -10,3 +10,4 @@ pub mod Divides
 pub mod Finds
 pub mod Kept
 pub mod OneInside
+pub mod Listed

@@ -10,7 +10,6 @@ use Rattle.refusal.specs.declared.Verdict.the-variants.{Accepted}
 use Rattle.book.specs.declared.Book.{Book}
 use Rattle.book.specs.Entries.{bookEntries, SameBook}
 use Rattle.book.specs.Rules.{bookVerdict}
-use Rattle.book.specs.Room.{roomOf}
 use Rattle.forms.specs.Shape.{TextOf}
 use Rattle.booktext.specs.BookText.{bookText}
 use Rattle.booktext.specs.Record.{emptyBid, bookRecord}
@@ -18,7 +17,7 @@ use Rattle.booktext.specs.WellFormed.{WellFormedBook}
 use Rattle.booktext.specs.Arrays.{SixSegments, Arrays}
 use Rattle.booktext.proofs.Accepted.{well-formed, same-record}
 use Rattle.booktext.proofs.Records.{entries-of-record, record-arrays}
-use Rattle.booktext.proofs.Room.{room-bounds, text-short}
+use Rattle.booktext.proofs.Short.{text-short}
 use Rattle.bookreader.specs.Reading.{readOf}
 use Rattle.bookreader.proofs.Answers.{books}
 use Rattle.printer.specs.Written.{written}
@@ -44,11 +43,6 @@ module _ (b : Book) (arrays : Arrays b) (accepted : bookVerdict (bookEntries b) 
   -- the text of an accepted record is accepted, and is read as the same book
   pub reads-back : (readOf (textOf b) .verdict ≡ Accepted) × SameBook (readOf (textOf b) .book) b
   reads-back = Any.reads-back kept b arrays accepted
-
-  -- the room figure bounds the text's length
-  pub room-enough : length (textOf b) ≤ roomOf (bookEntries b) .bytes
-  unfolding roomOf
-  room-enough = rw accepted (room-bounds (bookEntries b) (well-formed b arrays accepted) accepted)
 
 -- what is known of a record that was written
 module _ (b : Book) (out : List ℕ) (accepted : writeVerdict b (length out) ≡ Accepted) where

@@ -1,5 +1,5 @@
 // What the society's mints and the tender site ask for, from the text of a bid book: the award, its sheet and its page, the book written out
-// again, the room figure, and the price of a proposed split. Each is refused first as reading refuses the text. The award, the sheet and the
+// again, its sizes, and the price of a proposed split. Each is refused first as reading refuses the text. The award, the sheet and the
 // page are sampled by the printed table, or by a table that comes as text before the book's; its refusals come first.
 
 // The modules are private: the functions named here are the entries. Those of `bookanswers` and `tableanswers` clear nothing.
@@ -9,7 +9,7 @@ mod written;
 
 pub use awards::clear;
 pub use bookanswers::price_split;
-pub use bookanswers::room;
+pub use bookanswers::sizes;
 pub use bookanswers::write;
 pub use by_table::clear_by_table;
 pub use by_table::page_by_table;

@@ -1,13 +1,10 @@
--- The room figure: an accepted book's text is no longer, and at most 2,321 bytes. Assumes nothing.
-use Prim.Native.Nat.{ℕ, suc, _+_, _*_, _≤_}
+-- The text of an accepted book has at most 2,321 bytes. Assumes nothing.
+use Prim.Native.Nat.{ℕ, suc, _≤_}
 use native.Mathlib.Omega.{arith}
 use mathlib.Core.Bool.{true}
-use mathlib.Core.List.{List, [], _∷_}
 use mathlib.Core.Path.{_≡_}
 use lib.IntN.{ℤ, pos, negsuc, natAbs}
 use lib.ListN.{length, length-append}
-use Rattle.lists.specs.All.{All}
-use Rattle.lists.specs.Joined.{joined}
 use Rattle.lists.proofs.All.{all-tested, all-from, all-both}
 use Rattle.lists.proofs.Joined.{joined-short}
 use Rattle.forms.specs.Digits.{digits, signedDigits}
@@ -16,7 +13,6 @@ use Rattle.refusal.specs.declared.Verdict.the-variants.{Accepted}
 use Rattle.book.specs.declared.Segment.{Segment}
 use Rattle.book.specs.Entries.{BidEntries, BookEntries}
 use Rattle.book.specs.Rules.{segmentInRange, bookVerdict}
-use Rattle.book.specs.Room.{roomOfBids}
 use Rattle.book.specs.Accepted.{AcceptedBid}
 use Rattle.book.proofs.Accepted.{book-accepted, all-accepted}
 use Rattle.book.proofs.InRange.{in-range}
@@ -48,42 +44,23 @@ segment-short s e =
     let fixed = fourteen (s .fixed .0) (r .fixed-size) in
     simp length-append (omega arith)
 
--- the bid's part of the room figure
-abbrev RoomFor : BidEntries → Type 0
-RoomFor b = length (bidText b) ≤ 17 + 45 * b .count
-
-bid-short : (b : BidEntries) → WellFormedBid b × AcceptedBid b → RoomFor b
+-- 17, and 45 for each of at most six segments
+bid-short : (b : BidEntries) → WellFormedBid b × AcceptedBid b → length (bidText b) ≤ 287
 unfolding bidHead bidText
 bid-short b h =
     let each = all-from _ _ segment-short (b .segments) (all-tested segmentInRange (b .segments) (h .1 .ranges)) in
     let bidder = four (b .bidder) (h .1 .bidder-high) in
     let carriage = five (b .carriage) (h .1 .carriage-high) in
     let segments = joined-short segmentText 45 (b .segments) each in
-    simp length-append (omega (arith, h .0 .count))
+    simp length-append (omega (arith, h .0 .count, h .1 .count-high))
 
-bids-short : (bs : List BidEntries) → All RoomFor bs → length (joined bidText bs) ≤ roomOfBids bs
-unfolding roomOfBids
-bids-short [] h = omega arith
-bids-short (b ∷ bs) h = simp length-append (omega (arith, h .0, bids-short bs (h .1)))
-
--- 17 + 45 * 6 for each
-most-room : (bs : List BidEntries) → All AcceptedBid bs → roomOfBids bs ≤ 287 * length bs
-unfolding roomOfBids
-most-room [] h = omega arith
-most-room (b ∷ bs) h = omega (arith, h .0 .count-high, most-room bs (h .1))
-
-module _ (b : BookEntries) (well-formed : WellFormedBook b) (accepted : bookVerdict b ≡ Accepted) where
-  pub room-bounds : length (bookText b) ≤ 25 + roomOfBids (b .bids)
-  unfolding bookHead bookText
-  room-bounds =
-      let demand = seven (b .order .demand .0) (book-accepted b accepted .demand-high) in
-      let allowance = seven (b .order .allowance .0) (book-accepted b accepted .allowance-high) in
-      let each =
-      all-from _ RoomFor bid-short (b .bids)
-      (all-both WellFormedBid AcceptedBid (b .bids) (well-formed .bids) (all-accepted b accepted)) in
-      simp length-append (omega (arith, bids-short (b .bids) each))
-
-  pub text-short : length (bookText b) ≤ 2321
-  text-short =
-      let few = book-accepted b accepted .count-high in
-      omega (arith, room-bounds, most-room (b .bids) (all-accepted b accepted), well-formed .count)
+-- 25, and 287 for each of at most eight bids
+pub text-short : (b : BookEntries) → WellFormedBook b → bookVerdict b ≡ Accepted → length (bookText b) ≤ 2321
+unfolding bookHead bookText
+text-short b well-formed accepted =
+    let keeps = book-accepted b accepted in
+    let demand = seven (b .order .demand .0) (keeps .demand-high) in
+    let allowance = seven (b .order .allowance .0) (keeps .allowance-high) in
+    let both = all-both WellFormedBid AcceptedBid (b .bids) (well-formed .bids) (all-accepted b accepted) in
+    let bids = joined-short bidText 287 (b .bids) (all-from _ _ bid-short (b .bids) both) in
+    simp length-append (omega (arith, keeps .count-high, well-formed .count))

@@ -1,0 +1,1 @@
+// What the three figures of every accepted book tell (proofs/); no code.
