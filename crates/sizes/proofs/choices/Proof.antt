@@ -78,7 +78,7 @@ loop-again c =
     let at = l .before .loop in
     let held : b .count ≤ length (b .bids) = omega (arith, few (l .before), eight (l .before)) in (
       omega arith,
-      product-small (at .choices) (at .i) _ (at .inv .1) (this-bid l .count-high),
+      omega (arith, product-small (at .choices) (at .i) _ (at .inv .1) (this-bid l .count-high)),
       at .inv .2 ∙ choices-next (b .bids) (at .i) (b .count) (at .choices) (l .loop-test .taken) held,
     )
 
