@@ -1,38 +1,9 @@
 /* Clears the bid book that is named by the first argument: prints its award sheet, or the refusal. The samples are by the printed table, or
  * by the one that is named by the second argument. */
-#include <inttypes.h>
 #include <stdio.h>
 
 #include "boccelarch.h"
-
-struct text {
-    uint8_t bytes[BOCCELARCH_TEXT_BYTES + 1]; /* one byte more than a text may have, so that a longer one is seen to be too long */
-    uint64_t length;
-};
-
-static int read_text(const char *name, struct text *text)
-{
-    FILE *file = fopen(name, "rb");
-    int failed;
-
-    if (file == NULL) {
-        perror(name);
-        return 0;
-    }
-    text->length = fread(text->bytes, 1, sizeof text->bytes, file);
-    failed = ferror(file); /* a text cut by a failed read can still be a whole one */
-    if (failed)
-        perror(name);
-    fclose(file);
-    return !failed;
-}
-
-static int refused(const char *name, const char *what, uint64_t number, uint64_t place)
-{
-    printf("(refused %" PRIu64 " %" PRIu64 ")\n", number, place);
-    fprintf(stderr, "%s: the %s is refused\n", name, what);
-    return 1;
-}
+#include "text.h"
 
 int main(int argc, char **argv)
 {
@@ -55,5 +26,5 @@ int main(int argc, char **argv)
     number = boccelarch_sheet_by_table(table.bytes, table.length, book.bytes, book.length, out, sizeof out, &place, &bytes);
     if (number != BOCCELARCH_ACCEPTED)
         return refused(argv[1], "book", number, place);
-    return fwrite(out, 1, bytes, stdout) == bytes && fflush(stdout) == 0 ? 0 : 2;
+    return print_sheet(out, bytes);
 }

@@ -91,11 +91,14 @@ uint64_t boccelarch_sheet(const uint8_t *text, size_t text_length, uint8_t *out,
 uint64_t boccelarch_page(const uint8_t *text, size_t text_length, uint8_t *out, size_t out_length, uint64_t *place, uint64_t *bytes);
 
 /* The book written out again, and its length in bytes: of an accepted text, the same text. Refused by 1 to 8 and 10. An output of
- * BOCCELARCH_TEXT_BYTES holds every accepted book, and so does one of the bytes that boccelarch_room gives for it. */
+ * BOCCELARCH_TEXT_BYTES holds every accepted book, and one of the bytes that boccelarch_sizes gives holds exactly it. */
 uint64_t boccelarch_write(const uint8_t *text, size_t text_length, uint8_t *out, size_t out_length, uint64_t *place, uint64_t *bytes);
 
-/* The room figure, how many bytes the book's text takes at most: 25 + 17 for each bid + 45 for each segment. Refused by 1 to 8. */
-uint64_t boccelarch_room(const uint8_t *text, size_t text_length, uint64_t *place, uint64_t *bytes);
+/* What is known of a book before it is cleared, whether or not its demand can be covered: *bytes, the exact length of its text, which is what
+ * boccelarch_write writes; *choices, in how many ways each bid can be given one of its segments or none, the product over the bids of
+ * segments + 1; *sheet, 39 + 66 for each bid, which no sheet of the book exceeds, by the printed table or by any that passes, so that with
+ * an output of as many bytes it is never refused by 10. Refused by 1 to 8. */
+uint64_t boccelarch_sizes(const uint8_t *text, size_t text_length, uint64_t *place, uint64_t *bytes, uint64_t *choices, uint64_t *sheet);
 
 /* The price in cents of a proposed split, carriage with it: one quantity for each bid in book order, whether or not the demand can be
  * covered. *meets is 1 if the quantities add up to at least the demand and at most demand + allowance, else 0. Refused by 1 to 8 and 11. */

@@ -70,22 +70,45 @@ static void check_refused_output(enum output_entry entry, const char *name, stru
     check_output(entry, name, text, output_entries[entry].enough, refused_output(number, place));
 }
 
-struct room {
-    uint64_t number, place, bytes;
+struct sizes {
+    uint64_t number, place, bytes, choices, sheet;
 };
 
-static void check_room(const char *name, struct text text, struct room expected)
+/* What lent.h lends is not 0 before a call, so that the zeros beside a refusal are seen to be set. */
+static void check_sizes(const char *name, struct text text, struct sizes expected)
 {
     enum arrangement how;
 
     for (how = GUARDED; how <= EXACT; how++) {
-        struct lent lent_text = lend_copy(how, text.bytes, text.length);
-        struct lent place = lend(how, sizeof(uint64_t)), bytes = lend(how, sizeof(uint64_t));
+        struct lent lent_text = lend_copy(how, text.bytes, text.length), place = lend(how, sizeof(uint64_t));
+        struct lent bytes = lend(how, sizeof(uint64_t)), choices = lend(how, sizeof(uint64_t)), sheet = lend(how, sizeof(uint64_t));
 
-        situate("room", name, text.length, 0, how);
-        expect_number("refusal", expected.number, boccelarch_room(lent_text.bytes, text.length, numbers(&place), numbers(&bytes)));
+        situate("sizes", name, text.length, 0, how);
+        expect_number("refusal", expected.number,
+                      boccelarch_sizes(lent_text.bytes, text.length, numbers(&place), numbers(&bytes), numbers(&choices),
+                                       numbers(&sheet)));
         take_back_number("place", &place, expected.place);
         take_back_number("bytes", &bytes, expected.bytes);
+        take_back_number("choices", &choices, expected.choices);
+        take_back_number("sheet", &sheet, expected.sheet);
+        take_back("text", &lent_text, text.bytes, text.length);
+    }
+}
+
+/* An output of as many bytes as the limit is long enough for the sheet, of which nothing else is known here: there is none, or it fits. */
+static void check_limit(const char *name, struct text text, uint64_t limit)
+{
+    enum arrangement how;
+
+    for (how = GUARDED; how <= EXACT; how++) {
+        struct lent lent_text = lend_copy(how, text.bytes, text.length), out = lend(how, limit);
+        uint64_t place, bytes, number;
+
+        situate("sheet", name, text.length, limit, how);
+        number = boccelarch_sheet(lent_text.bytes, text.length, out.bytes, limit, &place, &bytes);
+        expect_number("refused by another number than 9", 0, number != BOCCELARCH_ACCEPTED && number != BOCCELARCH_NOT_COVERED);
+        expect_number("more bytes than the limit", 0, bytes > limit);
+        release("output", &out);
         take_back("text", &lent_text, text.bytes, text.length);
     }
 }
@@ -139,35 +162,38 @@ static void check_award(const char *name, struct text text, size_t length, struc
 static void check_refused(const char *name, struct text text, uint64_t number, uint64_t place)
 {
     static const uint64_t quantities[BIDS] = {0};
-    struct room room = {0, 0, 0};
+    struct sizes sizes = {0, 0, 0, 0, 0};
     struct split split = {0, 0, 0, 0};
     enum output_entry entry;
     size_t all;
 
-    room.number = split.number = number;
-    room.place = split.place = place;
+    sizes.number = split.number = number;
+    sizes.place = split.place = place;
     for (entry = SHEET; entry <= WRITE; entry++)
         check_refused_output(entry, name, text, number, place);
     for (all = 0; all <= 1; all++) {
         check_split(name, text, quantities, all * COUNT(quantities), split);
         check_award(name, text, all * BOCCELARCH_AWARD_NUMBERS, refused_award(number, place));
     }
-    check_room(name, text, room);
+    check_sizes(name, text, sizes);
 }
 
-/* An accepted text is written out the same, whether or not its demand can be covered, and the room figure is room enough for it. */
-static void check_accepted(const char *name, struct text text, uint64_t room_bytes)
+/* An accepted text is written out the same, whether or not its demand can be covered. Its length is the first of the three figures: with an
+ * output of as many bytes it is written, and with one byte less that number is the place of refusal 10. */
+static void check_accepted(const char *name, struct text text, uint64_t choices, uint64_t limit)
 {
-    struct room room = {0, 0, 0};
+    struct sizes sizes = {0, 0, 0, 0, 0};
 
-    room.bytes = room_bytes;
-    check_room(name, text, room);
+    sizes.bytes = text.length;
+    sizes.choices = choices;
+    sizes.sheet = limit;
+    check_sizes(name, text, sizes);
     check_written(WRITE, name, text, text);
-    check_lengths(WRITE, name, text, text, room_bytes, room_bytes);
+    check_limit(name, text, limit);
 }
 
 /* 9 comes before 10, so it does not matter how long the output is. */
-static void check_not_covered(const char *name, struct text text, uint64_t room_bytes)
+static void check_not_covered(const char *name, struct text text, uint64_t choices, uint64_t limit)
 {
     size_t all;
 
@@ -175,7 +201,7 @@ static void check_not_covered(const char *name, struct text text, uint64_t room_
     check_refused_output(PAGE, name, text, BOCCELARCH_NOT_COVERED, 0);
     for (all = 0; all <= 1; all++)
         check_award(name, text, all * BOCCELARCH_AWARD_NUMBERS, refused_award(BOCCELARCH_NOT_COVERED, 0));
-    check_accepted(name, text, room_bytes);
+    check_accepted(name, text, choices, limit);
 }
 
 /* Books that are cleared */
@@ -201,10 +227,12 @@ static void check_cleared_books(void)
 
     for (book = cleared; book < cleared + COUNT(cleared); book++) {
         check_written(SHEET, book->name, book->text, book->sheet);
+        check_lengths(SHEET, book->name, book->text, book->sheet, book->limit, book->limit);
         check_written(PAGE, book->name, book->text, book->page);
         expect_number("bytes of the page in cases.h", 65 * (book->count + 1), book->page.length);
+        expect_number("limit of the sheet in cases.h", 39 + 66 * book->count, book->limit);
         check_award_lengths(book);
-        check_accepted(book->name, book->text, book->room);
+        check_accepted(book->name, book->text, book->choices, book->limit);
     }
 }
 
@@ -220,12 +248,12 @@ static void check_every_length(void)
 
 static void check_books_not_covered(void)
 {
-    check_not_covered("demand 301", (struct text)TEXT(BOOK(301)), 256);
-    check_not_covered("bidder 12 alone, demand 119", (struct text)TEXT(DEMAND(119) BID_12), 87);
-    check_not_covered("demand 301, which no allowance helps", (struct text)TEXT(ORDER(301, 1000000) BID_3 BID_8 BID_12), 256);
-    check_not_covered("starts that pass the demand by one more than the allowance", (struct text)TEXT(STARTS_BOOK(19)), 149);
+    check_not_covered("demand 301", (struct text)TEXT(BOOK(301)), 12, 237);
+    check_not_covered("bidder 12 alone, demand 119", (struct text)TEXT(DEMAND(119) BID_12), 2, 105);
+    check_not_covered("demand 301, which no allowance helps", (struct text)TEXT(ORDER(301, 1000000) BID_3 BID_8 BID_12), 12, 237);
+    check_not_covered("starts that pass the demand by one more than the allowance", (struct text)TEXT(STARTS_BOOK(19)), 4, 171);
     check_not_covered("two bids of 999,999, one blank more than is taken",
-                      (struct text)TEXT(ORDER(1000000, 999997) DEAREST(9998, 999999) DEAREST(9999, 999999)), 149);
+                      (struct text)TEXT(ORDER(1000000, 999997) DEAREST(9998, 999999) DEAREST(9999, 999999)), 4, 171);
 }
 
 /* Texts that are refused */
@@ -254,22 +282,40 @@ static void check_rules(void)
     }
 }
 
-/* The rules' limits, where nothing is refused. The first fills its room figure, each number having the most bytes. */
+/* The rules' limits, where nothing is refused. The shortest and the longest text are also among the books that are cleared. */
 static void check_limits(void)
 {
+    check_sizes("the shortest text", (struct text)TEXT(SHORTEST_TEXT), (struct sizes){0, 0, 37, 2, 105});
+    check_sizes("the longest text", (struct text)TEXT(LONGEST_TEXT), (struct sizes){0, 0, 2201, 5764801, 567});
     check_accepted("the longest line",
-                   (struct text)TEXT(ORDER(1000000, 1000000) "(bid 9999 10000 (seg 1000000 1000000 1000000 -1000000000000))\n"), 87);
-    check_accepted("the least numbers", (struct text)TEXT(DEMAND(1) "(bid 1 0 (seg 1 1 0 0))\n"), 87);
-    check_accepted("the highest allowance", (struct text)TEXT(ORDER(1, 1000000) "(bid 1 0 (seg 1 1 0 0))\n"), 87);
-    check_accepted("the widest segment", (struct text)TEXT(DEMAND(1) "(bid 1 0 (seg 1 1000000 0 1000000000000))\n"), 87);
+                   (struct text)TEXT(ORDER(1000000, 1000000) "(bid 9999 10000 (seg 1000000 1000000 1000000 -1000000000000))\n"), 2, 105);
+    check_accepted("the highest allowance", (struct text)TEXT(ORDER(1, 1000000) "(bid 1 0 (seg 1 1 0 0))\n"), 2, 105);
+    check_accepted("the widest segment", (struct text)TEXT(DEMAND(1) "(bid 1 0 (seg 1 1000000 0 1000000000000))\n"), 2, 105);
     check_accepted("price 0 at a start, and the highest carriage",
-                   (struct text)TEXT(DEMAND(120) CARRIED(3, 10000, " (seg 61 100 350 -21350)")), 87);
-    check_accepted("six segments", (struct text)TEXT(DEMAND(1) BID(1, SIX)), 312);
-    check_accepted("eight bids", (struct text)TEXT(DEMAND(1) SEVEN_GOOD GOOD(8)), 521);
-    check_accepted("eight bids of six segments",
-                   (struct text)TEXT(DEMAND(1) BID(1, SIX) BID(2, SIX) BID(3, SIX) BID(4, SIX) BID(5, SIX) BID(6, SIX) BID(7, SIX)
-                                         BID(8, SIX)),
-                   2321);
+                   (struct text)TEXT(DEMAND(120) CARRIED(3, 10000, " (seg 61 100 350 -21350)")), 2, 105);
+    check_accepted("eight bids", (struct text)TEXT(DEMAND(1) SEVEN_GOOD GOOD(8)), 256, 567);
+}
+
+/* Counts of bids and of segments, from the fewest to the most. */
+static void check_counts(void)
+{
+    check_not_covered("one segment", (struct text)TEXT(DEMAND(1) BID(1, ONE)), 2, 105);
+    check_not_covered("two segments", (struct text)TEXT(DEMAND(1) BID(1, TWO)), 3, 105);
+    check_not_covered("three segments", (struct text)TEXT(DEMAND(1) BID(1, THREE)), 4, 105);
+    check_not_covered("four segments", (struct text)TEXT(DEMAND(1) BID(1, FOUR)), 5, 105);
+    check_not_covered("five segments", (struct text)TEXT(DEMAND(1) BID(1, FIVE)), 6, 105);
+    check_not_covered("six segments", (struct text)TEXT(DEMAND(1) BID(1, SIX)), 7, 105);
+    check_not_covered("one segment and six", (struct text)TEXT(DEMAND(1) BID(1, ONE) BID(2, SIX)), 14, 171);
+    check_not_covered("six segments and one", (struct text)TEXT(DEMAND(1) BID(1, SIX) BID(2, ONE)), 14, 171);
+    check_not_covered("from one segment to six",
+                      (struct text)TEXT(DEMAND(1) BID(1, ONE) BID(2, TWO) BID(3, THREE) BID(4, FOUR) BID(5, FIVE) BID(6, SIX)), 5040, 435);
+    check_not_covered("seven bids of six segments",
+                      (struct text)TEXT(DEMAND(1) BID(1, SIX) BID(2, SIX) BID(3, SIX) BID(4, SIX) BID(5, SIX) BID(6, SIX) BID(7, SIX)),
+                      823543, 501);
+    check_not_covered("eight bids of six segments",
+                      (struct text)TEXT(DEMAND(1) BID(1, SIX) BID(2, SIX) BID(3, SIX) BID(4, SIX) BID(5, SIX) BID(6, SIX) BID(7, SIX)
+                                            BID(8, SIX)),
+                      5764801, 567);
 }
 
 /* Beginnings of document 01's book. One that ends with a bid's line is itself a book, that of two bids among those that are cleared; every
@@ -282,7 +328,7 @@ static void check_beginnings(void)
     for (beginning.length = 0; beginning.length < book.length; beginning.length++)
         if (beginning.length != one_bid.length && beginning.length != two_bids.length)
             check_refused("a beginning", beginning, BOCCELARCH_SHAPE, beginning.length);
-    check_not_covered("the first bid", one_bid, 132);
+    check_not_covered("the first bid", one_bid, 3, 105);
 }
 
 /* What follows in memory is not taken for a part of the text or of the list, even if it would fit. */
@@ -292,7 +338,7 @@ static void check_what_follows(void)
     static const uint64_t quantities[] = {60, 60, 0};
     const uint8_t *bytes = (const uint8_t *)book.bytes;
     uint8_t out[BOCCELARCH_TEXT_BYTES];
-    uint64_t place, number, meets;
+    uint64_t place, number, choices, sheet, meets;
     int64_t price;
     size_t length = book.length - 1;
     enum output_entry entry;
@@ -302,6 +348,9 @@ static void check_what_follows(void)
         expect_number("refusal", BOCCELARCH_SHAPE, output_entries[entry].call(bytes, length, out, sizeof out, &place, &number));
         expect_number("place", length, place);
     }
+    situate("sizes", "the book's last byte behind the text", length, 0, IN_PLACE);
+    expect_number("refusal", BOCCELARCH_SHAPE, boccelarch_sizes(bytes, length, &place, &number, &choices, &sheet));
+    expect_number("place", length, place);
     situate("split", "the third quantity behind the list", book.length, 2, IN_PLACE);
     expect_number("refusal", BOCCELARCH_SPLIT_QUANTITY, boccelarch_split(bytes, book.length, quantities, 2, &place, &price, &meets));
     expect_number("place", 4, place);
@@ -374,6 +423,7 @@ int main(void)
     check_shapes();
     check_rules();
     check_limits();
+    check_counts();
     check_beginnings();
     check_what_follows();
     check_long_texts();

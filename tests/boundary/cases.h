@@ -51,7 +51,7 @@ typedef uint64_t row[BOCCELARCH_COLUMNS];
 struct cleared {
     const char *name;
     struct text text;
-    uint64_t room;
+    uint64_t choices, limit; /* of segments; of the sheet's bytes */
     struct text sheet, page;
     uint64_t bought, total, count;
     row rows[BIDS]; /* bidder, segment, quantity, price, sample, covered without this bidder, total without */
@@ -77,8 +77,30 @@ struct cleared {
 #define SELLER(bidder, covered, without) {bidder, 1, 125000, 1125000000000, 500, covered, without}
 #define NO_SELLER(bidder, covered, without) {bidder, 0, 0, 0, 0, covered, without}
 
+/* The shortest text, of 37 bytes, has one bid of one segment, and every number has one digit.
+ *
+ * The longest has 2,201: 25 in the first line, and 17 + 5 * 42 + 45 in each of eight bids. None is longer, since a first line has at most
+ * 25 bytes, and a bid 17 beside its segments. A segment has 10 beside its numbers. Its start and end are below the next start, so that only
+ * in the last one they can be 1,000,000 and have seven digits, and only at that start the price with the one fixed price of fourteen bytes,
+ * -1,000,000,000,000, is not negative. So the last has at most 7 + 7 + 7 + 14 bytes of numbers, and each other one 6 + 6 + 7 + 13. */
+#define SHORTEST_TEXT DEMAND(1) "(bid 1 0 (seg 1 1 0 0))\n"
+#define LONG(blanks) " (seg " #blanks " " #blanks " 1000000 1000000000000)"
+#define LONGEST(bidder, fixed)                                                                                                            \
+    "(bid " #bidder " 10000" LONG(100000) LONG(200000) LONG(300000) LONG(400000) LONG(999999) " (seg 1000000 1000000 1000000 " #fixed "))\n"
+#define LONGEST_TEXT ORDER(1000000, 1000000) LONGEST(9991, -1000000000000) SEVEN_LINES(LONGEST, -1000000000000)
+
+/* Sells 125,000 blanks for 1,000,000,000,000 cents, or 142,858 for 1,144,286,580,000. For 1,000,000 blanks eight such all sell the first,
+ * and seven the second: 1,000,006 for 8,010,006,060,000. With samples of five digits no sheet is wider: tests/rust/src/generate/widest.rs
+ * says why. */
+#define OF_TWO(bidder, carriage)                                                                                                          \
+    "(bid " #bidder " " #carriage " (seg 125000 125000 0 998750000000) (seg 142858 142858 1000000 1000000000000))\n"
+#define EIGHT_OF_TWO SEVEN_LINES(OF_TWO, 10000) OF_TWO(9999, 10000)
+#define SELLS_FIRST(bidder, sample) "(buy " #bidder " 1 125000 1000000000000 " #sample " (without 8010006060000))\n"
+#define PAGE_SELLS_FIRST(bidder, sample) "  " #bidder "   1    125000      10000000000.00" sample "    80100060600.00\n"
+#define FIRST_SELLER(bidder, covered, without) {bidder, 1, 125000, 1000000000000, 500, covered, without}
+
 static const struct cleared cleared[] = {
-    {"demand 120", TEXT(BOOK(120)), 256,
+    {"demand 120", TEXT(BOOK(120)), 12, 237,
      TEXT("(award 120 120 43100)\n(buy 3 2 100 34500 20 (without 44400))\n(buy 8 1 20 8600 5 (without 44400))\n"
           "(buy 12 0 0 0 0 (without 43100))\n"),
      TEXT("                 120                 120                  431.00\n"
@@ -86,14 +108,14 @@ static const struct cleared cleared[] = {
           "     8   1        20               86.00     5            444.00\n"
           "    12   0         0                0.00     0            431.00\n"),
      120, 43100, 3, {{3, 2, 100, 34500, 20, 1, 44400}, {8, 1, 20, 8600, 5, 1, 44400}, {12, 0, 0, 0, 0, 1, 43100}}},
-    {"demand 19", TEXT(BOOK(19)), 256,
+    {"demand 19", TEXT(BOOK(19)), 12, 237,
      TEXT("(award 19 19 7600)\n(buy 3 1 19 7600 5 (without none))\n(buy 8 0 0 0 0 (without 7600))\n(buy 12 0 0 0 0 (without 7600))\n"),
      TEXT("                  19                  19                   76.00\n"
           "     3   1        19               76.00     5              none\n"
           "     8   0         0                0.00     0             76.00\n"
           "    12   0         0                0.00     0             76.00\n"),
      19, 7600, 3, {{3, 1, 19, 7600, 5, 0, 0}, {8, 0, 0, 0, 0, 1, 7600}, {12, 0, 0, 0, 0, 1, 7600}}},
-    {"demand 60", TEXT(BOOK(60)), 256,
+    {"demand 60", TEXT(BOOK(60)), 12, 237,
      TEXT("(award 60 60 23800)\n(buy 3 0 0 0 0 (without 23800))\n(buy 8 1 60 23800 13 (without 24000))\n"
           "(buy 12 0 0 0 0 (without 23800))\n"),
      TEXT("                  60                  60                  238.00\n"
@@ -101,7 +123,7 @@ static const struct cleared cleared[] = {
           "     8   1        60              238.00    13            240.00\n"
           "    12   0         0                0.00     0            238.00\n"),
      60, 23800, 3, {{3, 0, 0, 0, 0, 1, 23800}, {8, 1, 60, 23800, 13, 1, 24000}, {12, 0, 0, 0, 0, 1, 23800}}},
-    {"demand 61", TEXT(BOOK(61)), 256,
+    {"demand 61", TEXT(BOOK(61)), 12, 237,
      TEXT("(award 61 61 20850)\n(buy 3 2 61 20850 13 (without 24180))\n(buy 8 0 0 0 0 (without 20850))\n"
           "(buy 12 0 0 0 0 (without 20850))\n"),
      TEXT("                  61                  61                  208.50\n"
@@ -109,7 +131,7 @@ static const struct cleared cleared[] = {
           "     8   0         0                0.00     0            208.50\n"
           "    12   0         0                0.00     0            208.50\n"),
      61, 20850, 3, {{3, 2, 61, 20850, 13, 1, 24180}, {8, 0, 0, 0, 0, 1, 20850}, {12, 0, 0, 0, 0, 1, 20850}}},
-    {"demand 181", TEXT(BOOK(181)), 256,
+    {"demand 181", TEXT(BOOK(181)), 12, 237,
      TEXT("(award 181 181 65250)\n(buy 3 2 61 20850 13 (without 68580))\n(buy 8 0 0 0 0 (without 65250))\n"
           "(buy 12 1 120 44400 20 (without none))\n"),
      TEXT("                 181                 181                  652.50\n"
@@ -117,7 +139,7 @@ static const struct cleared cleared[] = {
           "     8   0         0                0.00     0            652.50\n"
           "    12   1       120              444.00    20              none\n"),
      181, 65250, 3, {{3, 2, 61, 20850, 13, 1, 68580}, {8, 0, 0, 0, 0, 1, 65250}, {12, 1, 120, 44400, 20, 0, 0}}},
-    {"demand 300", TEXT(BOOK(300)), 256,
+    {"demand 300", TEXT(BOOK(300)), 12, 237,
      TEXT("(award 300 300 110300)\n(buy 3 2 100 34500 20 (without none))\n(buy 8 1 80 31400 13 (without none))\n"
           "(buy 12 1 120 44400 20 (without none))\n"),
      TEXT("                 300                 300                 1103.00\n"
@@ -125,13 +147,13 @@ static const struct cleared cleared[] = {
           "     8   1        80              314.00    13              none\n"
           "    12   1       120              444.00    20              none\n"),
      300, 110300, 3, {{3, 2, 100, 34500, 20, 0, 0}, {8, 1, 80, 31400, 13, 0, 0}, {12, 1, 120, 44400, 20, 0, 0}}},
-    {"two bidders at one price", TEXT(DEMAND(10) "(bid 1 0 (seg 1 10 5 0))\n(bid 2 0 (seg 1 10 5 0))\n"), 149,
+    {"two bidders at one price", TEXT(DEMAND(10) "(bid 1 0 (seg 1 10 5 0))\n(bid 2 0 (seg 1 10 5 0))\n"), 4, 171,
      TEXT("(award 10 10 50)\n(buy 1 1 10 50 3 (without 50))\n(buy 2 0 0 0 0 (without 50))\n"),
      TEXT("                  10                  10                    0.50\n"
           "     1   1        10                0.50     3              0.50\n"
           "     2   0         0                0.00     0              0.50\n"),
      10, 50, 2, {{1, 1, 10, 50, 3, 1, 50}, {2, 0, 0, 0, 0, 1, 50}}},
-    {"price 0 at a start", TEXT(DEMAND(120) "(bid 3 0 (seg 1 60 400 0) (seg 61 100 350 -21350))\n" BID_8 BID_12), 256,
+    {"price 0 at a start", TEXT(DEMAND(120) "(bid 3 0 (seg 1 60 400 0) (seg 61 100 350 -21350))\n" BID_8 BID_12), 12, 237,
      TEXT("(award 120 120 22250)\n(buy 3 2 100 13650 20 (without 44400))\n(buy 8 1 20 8600 5 (without 44400))\n"
           "(buy 12 0 0 0 0 (without 22250))\n"),
      TEXT("                 120                 120                  222.50\n"
@@ -139,47 +161,47 @@ static const struct cleared cleared[] = {
           "     8   1        20               86.00     5            444.00\n"
           "    12   0         0                0.00     0            222.50\n"),
      120, 22250, 3, {{3, 2, 100, 13650, 20, 1, 44400}, {8, 1, 20, 8600, 5, 1, 44400}, {12, 0, 0, 0, 0, 1, 22250}}},
-    {"a total of 0 is not none", TEXT(DEMAND(1) "(bid 1 0 (seg 1 1 0 0))\n(bid 2 0 (seg 1 1 0 0))\n"), 149,
+    {"a total of 0 is not none", TEXT(DEMAND(1) "(bid 1 0 (seg 1 1 0 0))\n(bid 2 0 (seg 1 1 0 0))\n"), 4, 171,
      TEXT("(award 1 1 0)\n(buy 1 1 1 0 1 (without 0))\n(buy 2 0 0 0 0 (without 0))\n"),
      TEXT("                   1                   1                    0.00\n"
           "     1   1         1                0.00     1              0.00\n"
           "     2   0         0                0.00     0              0.00\n"),
      1, 0, 2, {{1, 1, 1, 0, 1, 1, 0}, {2, 0, 0, 0, 0, 1, 0}}},
-    {"a price past 32 bits", TEXT(DEMAND(12000) "(bid 1 0 (seg 1 12000 400000 0))\n"), 87,
+    {"a price past 32 bits", TEXT(DEMAND(12000) "(bid 1 0 (seg 1 12000 400000 0))\n"), 2, 105,
      TEXT("(award 12000 12000 4800000000)\n(buy 1 1 12000 4800000000 315 (without none))\n"),
      TEXT("               12000               12000             48000000.00\n"
           "     1   1     12000         48000000.00   315              none\n"),
      12000, 4800000000, 1, {{1, 1, 12000, 4800000000, 315, 0, 0}}},
-    {"five cents", TEXT(DEMAND(1) "(bid 1 0 (seg 1 1 5 0))\n"), 87,
+    {"five cents", TEXT(DEMAND(1) "(bid 1 0 (seg 1 1 5 0))\n"), 2, 105,
      TEXT("(award 1 1 5)\n(buy 1 1 1 5 1 (without none))\n"),
      TEXT("                   1                   1                    0.05\n"
           "     1   1         1                0.05     1              none\n"),
      1, 5, 1, {{1, 1, 1, 5, 1, 0, 0}}},
-    {"the first two bids", TEXT(TWO_BIDS), 194,
+    {"the first two bids", TEXT(TWO_BIDS), 6, 171,
      TEXT("(award 120 120 43100)\n(buy 3 2 100 34500 20 (without none))\n(buy 8 1 20 8600 5 (without none))\n"),
      TEXT("                 120                 120                  431.00\n"
           "     3   2       100              345.00    20              none\n"
           "     8   1        20               86.00     5              none\n"),
      120, 43100, 2, {{3, 2, 100, 34500, 20, 0, 0}, {8, 1, 20, 8600, 5, 0, 0}}},
-    {"eight bidders, all needed", TEXT(DEMAND(1000000) EIGHT_DEAR), 521,
+    {"eight bidders, all needed", TEXT(DEMAND(1000000) EIGHT_DEAR), 256, 567,
      TEXT("(award 1000000 1000000 9000000000000)\n" SEVEN_LINES(SELLS, none) SELLS(9999, none)),
      TEXT("             1000000             1000000          90000000000.00\n"
           SEVEN_LINES(PAGE_SELLS, "              none") PAGE_SELLS(9999, "              none")),
      1000000, 9000000000000, 8, {SEVEN_ROWS(SELLER, 0, 0), SELLER(9999, 0, 0)}},
-    {"eight bidders, the last not needed", TEXT(DEMAND(875000) EIGHT_DEAR), 521,
+    {"eight bidders, the last not needed", TEXT(DEMAND(875000) EIGHT_DEAR), 256, 567,
      TEXT("(award 875000 875000 7875000000000)\n" SEVEN_LINES(SELLS, 7875000000000) SELLS_NOTHING(9999, 7875000000000)),
      TEXT("              875000              875000          78750000000.00\n"
           SEVEN_LINES(PAGE_SELLS, "    78750000000.00") PAGE_SELLS_NOTHING(9999, "    78750000000.00")),
      875000, 7875000000000, 8, {SEVEN_ROWS(SELLER, 1, 7875000000000), NO_SELLER(9999, 1, 7875000000000)}},
     {"each number at its widest",
-     TEXT(DEMAND(1000000) SEVEN_LINES(DEAR, 1000000) "(bid 9999 0 (seg 1000000 1000000 1000000 999999999999))\n"), 521,
+     TEXT(DEMAND(1000000) SEVEN_LINES(DEAR, 1000000) "(bid 9999 0 (seg 1000000 1000000 1000000 999999999999))\n"), 256, 567,
      TEXT("(award 1000000 1000000 1999999999999)\n" SEVEN_LINES(SELLS_NOTHING, 1999999999999)
           "(buy 9999 1 1000000 1999999999999 1250 (without 2000000000000))\n"),
      TEXT("             1000000             1000000          19999999999.99\n"
           SEVEN_LINES(PAGE_SELLS_NOTHING, "    19999999999.99")
           "  9999   1   1000000      19999999999.99  1250    20000000000.00\n"),
      1000000, 1999999999999, 8, {SEVEN_ROWS(NO_SELLER, 1, 1999999999999), {9999, 1, 1000000, 1999999999999, 1250, 1, 2000000000000}}},
-    {"carriages", TEXT(CARRIED_BOOK), 256,
+    {"carriages", TEXT(CARRIED_BOOK), 12, 237,
      TEXT("(award 120 120 59000)\n(buy 3 1 40 26000 8 (without 62400))\n(buy 8 1 80 33000 13 (without 62400))\n"
           "(buy 12 0 0 0 0 (without 59000))\n"),
      TEXT("                 120                 120                  590.00\n"
@@ -187,33 +209,33 @@ static const struct cleared cleared[] = {
           "     8   1        80              330.00    13            624.00\n"
           "    12   0         0                0.00     0            590.00\n"),
      120, 59000, 3, {{3, 1, 40, 26000, 8, 1, 62400}, {8, 1, 80, 33000, 13, 1, 62400}, {12, 0, 0, 0, 0, 1, 59000}}},
-    {"carriage 3: the first is cheaper", TEXT(ORDER_BOOK(3)), 149,
+    {"carriage 3: the first is cheaper", TEXT(ORDER_BOOK(3)), 4, 171,
      TEXT("(award 10 10 1030)\n(buy 1 1 10 1030 3 (without 1040))\n(buy 2 0 0 0 0 (without 1030))\n"),
      TEXT("                  10                  10                   10.30\n"
           "     1   1        10               10.30     3             10.40\n"
           "     2   0         0                0.00     0             10.30\n"),
      10, 1030, 2, {{1, 1, 10, 1030, 3, 1, 1040}, {2, 0, 0, 0, 0, 1, 1030}}},
-    {"carriage 4: two bidders at one price", TEXT(ORDER_BOOK(4)), 149,
+    {"carriage 4: two bidders at one price", TEXT(ORDER_BOOK(4)), 4, 171,
      TEXT("(award 10 10 1040)\n(buy 1 1 10 1040 3 (without 1040))\n(buy 2 0 0 0 0 (without 1040))\n"),
      TEXT("                  10                  10                   10.40\n"
           "     1   1        10               10.40     3             10.40\n"
           "     2   0         0                0.00     0             10.40\n"),
      10, 1040, 2, {{1, 1, 10, 1040, 3, 1, 1040}, {2, 0, 0, 0, 0, 1, 1040}}},
-    {"carriage 5: the second is cheaper", TEXT(ORDER_BOOK(5)), 149,
+    {"carriage 5: the second is cheaper", TEXT(ORDER_BOOK(5)), 4, 171,
      TEXT("(award 10 10 1040)\n(buy 1 0 0 0 0 (without 1040))\n(buy 2 1 10 1040 3 (without 1050))\n"),
      TEXT("                  10                  10                   10.40\n"
           "     1   0         0                0.00     0             10.40\n"
           "     2   1        10               10.40     3             10.50\n"),
      10, 1040, 2, {{1, 0, 0, 0, 0, 1, 1040}, {2, 1, 10, 1040, 3, 1, 1050}}},
     {"each number at its widest, and the highest carriage",
-     TEXT(DEMAND(1000000) SEVEN_LINES(DEAREST, 1000000) "(bid 9999 10000 (seg 1000000 1000000 1000000 999999999999))\n"), 521,
+     TEXT(DEMAND(1000000) SEVEN_LINES(DEAREST, 1000000) "(bid 9999 10000 (seg 1000000 1000000 1000000 999999999999))\n"), 256, 567,
      TEXT("(award 1000000 1000000 2009999999999)\n" SEVEN_LINES(SELLS_NOTHING, 2009999999999)
           "(buy 9999 1 1000000 2009999999999 1250 (without 2010000000000))\n"),
      TEXT("             1000000             1000000          20099999999.99\n"
           SEVEN_LINES(PAGE_SELLS_NOTHING, "    20099999999.99")
           "  9999   1   1000000      20099999999.99  1250    20100000000.00\n"),
      1000000, 2009999999999, 8, {SEVEN_ROWS(NO_SELLER, 1, 2009999999999), {9999, 1, 1000000, 2009999999999, 1250, 1, 2010000000000}}},
-    {"an allowance that nothing is bought by", TEXT(ORDER(120, 10) BID_3 BID_8 BID_12), 256,
+    {"an allowance that nothing is bought by", TEXT(ORDER(120, 10) BID_3 BID_8 BID_12), 12, 237,
      TEXT("(award 120 120 43100)\n(buy 3 2 100 34500 20 (without 44400))\n(buy 8 1 20 8600 5 (without 44400))\n"
           "(buy 12 0 0 0 0 (without 43100))\n"),
      TEXT("                 120                 120                  431.00\n"
@@ -221,7 +243,7 @@ static const struct cleared cleared[] = {
           "     8   1        20               86.00     5            444.00\n"
           "    12   0         0                0.00     0            431.00\n"),
      120, 43100, 3, {{3, 2, 100, 34500, 20, 1, 44400}, {8, 1, 20, 8600, 5, 1, 44400}, {12, 0, 0, 0, 0, 1, 43100}}},
-    {"a cheaper drum above the demand", TEXT(DRUM_BOOK(5)), 256,
+    {"a cheaper drum above the demand", TEXT(DRUM_BOOK(5)), 12, 237,
      TEXT("(award 120 125 42500)\n(buy 3 0 0 0 0 (without 42500))\n(buy 8 0 0 0 0 (without 42500))\n"
           "(buy 12 1 125 42500 20 (without 43100))\n"),
      TEXT("                 120                 125                  425.00\n"
@@ -229,7 +251,7 @@ static const struct cleared cleared[] = {
           "     8   0         0                0.00     0            425.00\n"
           "    12   1       125              425.00    20            431.00\n"),
      125, 42500, 3, {{3, 0, 0, 0, 0, 1, 42500}, {8, 0, 0, 0, 0, 1, 42500}, {12, 1, 125, 42500, 20, 1, 43100}}},
-    {"a cheaper drum, one blank above what is taken", TEXT(DRUM_BOOK(4)), 256,
+    {"a cheaper drum, one blank above what is taken", TEXT(DRUM_BOOK(4)), 12, 237,
      TEXT("(award 120 120 43100)\n(buy 3 2 100 34500 20 (without none))\n(buy 8 1 20 8600 5 (without none))\n"
           "(buy 12 0 0 0 0 (without 43100))\n"),
      TEXT("                 120                 120                  431.00\n"
@@ -237,36 +259,53 @@ static const struct cleared cleared[] = {
           "     8   1        20               86.00     5              none\n"
           "    12   0         0                0.00     0            431.00\n"),
      120, 43100, 3, {{3, 2, 100, 34500, 20, 0, 0}, {8, 1, 20, 8600, 5, 0, 0}, {12, 0, 0, 0, 0, 1, 43100}}},
-    {"free blanks are not taken beyond the demand", TEXT(ORDER(10, 5) "(bid 1 0 (seg 1 20 0 30))\n"), 87,
+    {"free blanks are not taken beyond the demand", TEXT(ORDER(10, 5) "(bid 1 0 (seg 1 20 0 30))\n"), 2, 105,
      TEXT("(award 10 10 30)\n(buy 1 1 10 30 3 (without none))\n"),
      TEXT("                  10                  10                    0.30\n"
           "     1   1        10                0.30     3              none\n"),
      10, 30, 1, {{1, 1, 10, 30, 3, 0, 0}}},
-    {"starts that pass the demand by the allowance", TEXT(STARTS_BOOK(20)), 149,
+    {"starts that pass the demand by the allowance", TEXT(STARTS_BOOK(20)), 4, 171,
      TEXT("(award 100 120 720)\n(buy 1 1 60 300 13 (without none))\n(buy 2 1 60 420 13 (without none))\n"),
      TEXT("                 100                 120                    7.20\n"
           "     1   1        60                3.00    13              none\n"
           "     2   1        60                4.20    13              none\n"),
      120, 720, 2, {{1, 1, 60, 300, 13, 0, 0}, {2, 1, 60, 420, 13, 0, 0}}},
-    {"equal cost: fewer blanks before book order", TEXT(DRUMS_OF(12, 5, 10, 6)), 149,
+    {"equal cost: fewer blanks before book order", TEXT(DRUMS_OF(12, 5, 10, 6)), 4, 171,
      TEXT("(award 10 10 60)\n(buy 1 0 0 0 0 (without 60))\n(buy 2 1 10 60 3 (without 60))\n"),
      TEXT("                  10                  10                    0.60\n"
           "     1   0         0                0.00     0              0.60\n"
           "     2   1        10                0.60     3              0.60\n"),
      10, 60, 2, {{1, 0, 0, 0, 0, 1, 60}, {2, 1, 10, 60, 3, 1, 60}}},
-    {"equal cost and as many blanks: book order", TEXT(DRUMS_OF(12, 5, 12, 5)), 149,
+    {"equal cost and as many blanks: book order", TEXT(DRUMS_OF(12, 5, 12, 5)), 4, 171,
      TEXT("(award 10 12 60)\n(buy 1 1 12 60 3 (without 60))\n(buy 2 0 0 0 0 (without 60))\n"),
      TEXT("                  10                  12                    0.60\n"
           "     1   1        12                0.60     3              0.60\n"
           "     2   0         0                0.00     0              0.60\n"),
      12, 60, 2, {{1, 1, 12, 60, 3, 1, 60}, {2, 0, 0, 0, 0, 1, 60}}},
-    {"the most that can be bought", TEXT(ORDER(1000000, 1000000) DEAREST(9998, 999999) DEAREST(9999, 999999)), 149,
+    {"the most that can be bought", TEXT(ORDER(1000000, 1000000) DEAREST(9998, 999999) DEAREST(9999, 999999)), 4, 171,
      TEXT("(award 1000000 1999998 4019997980000)\n(buy 9998 1 999999 2009998990000 1250 (without none))\n"
           "(buy 9999 1 999999 2009998990000 1250 (without none))\n"),
      TEXT("             1000000             1999998          40199979800.00\n"
           "  9998   1    999999      20099989900.00  1250              none\n"
           "  9999   1    999999      20099989900.00  1250              none\n"),
      1999998, 4019997980000, 2, {{9998, 1, 999999, 2009998990000, 1250, 0, 0}, {9999, 1, 999999, 2009998990000, 1250, 0, 0}}},
+    {"the shortest text", TEXT(SHORTEST_TEXT), 2, 105,
+     TEXT("(award 1 1 0)\n(buy 1 1 1 0 1 (without none))\n"),
+     TEXT("                   1                   1                    0.00\n"
+          "     1   1         1                0.00     1              none\n"),
+     1, 0, 1, {{1, 1, 1, 0, 1, 0, 0}}},
+    {"the longest text", TEXT(LONGEST_TEXT), 5764801, 567,
+     TEXT("(award 1000000 1000000 10000000000)\n(buy 9991 6 1000000 10000000000 1250 (without 10000000000))\n"
+          SEVEN_LINES(SELLS_NOTHING, 10000000000)),
+     TEXT("             1000000             1000000            100000000.00\n"
+          "  9991   6   1000000        100000000.00  1250      100000000.00\n"
+          SEVEN_LINES(PAGE_SELLS_NOTHING, "      100000000.00")),
+     1000000, 10000000000, 8, {{9991, 6, 1000000, 10000000000, 1250, 1, 10000000000}, SEVEN_ROWS(NO_SELLER, 1, 10000000000)}},
+    {"eight bidders who all sell, none of them needed", TEXT(ORDER(1000000, 1000000) EIGHT_OF_TWO), 6561, 567,
+     TEXT("(award 1000000 1000000 8000000000000)\n" SEVEN_LINES(SELLS_FIRST, 500) SELLS_FIRST(9999, 500)),
+     TEXT("             1000000             1000000          80000000000.00\n"
+          SEVEN_LINES(PAGE_SELLS_FIRST, "   500") PAGE_SELLS_FIRST(9999, "   500")),
+     1000000, 8000000000000, 8, {SEVEN_ROWS(FIRST_SELLER, 1, 8010006060000), FIRST_SELLER(9999, 1, 8010006060000)}},
 };
 
 /* Texts that are refused */
@@ -350,7 +389,12 @@ static const struct refused shapes[] = {
 #define FAULT_5 " (seg 1 1 1000001 0)"
 #define FAULT_7 " (seg 2 1 5 0)"
 #define FAULT_8 " (seg 1 1 5 -6)"
-#define SIX " (seg 11 11 5 0) (seg 12 12 5 0) (seg 13 13 5 0) (seg 14 14 5 0) (seg 15 15 5 0) (seg 16 16 5 0)"
+#define ONE " (seg 11 11 5 0)"
+#define TWO ONE " (seg 12 12 5 0)"
+#define THREE TWO " (seg 13 13 5 0)"
+#define FOUR THREE " (seg 14 14 5 0)"
+#define FIVE FOUR " (seg 15 15 5 0)"
+#define SIX FIVE " (seg 16 16 5 0)"
 #define SEVEN SIX " (seg 17 17 5 0)"
 #define CARRIED(bidder, carriage, segments) "(bid " #bidder " " #carriage segments ")\n"
 #define BID(bidder, segments) CARRIED(bidder, 0, segments)

@@ -14,7 +14,7 @@
 #include "boccelarch.h"
 #include "checks.h"
 
-enum { BIDS = 8, SEGMENTS = 6, ROOM = 25 + BIDS * (17 + SEGMENTS * 45) };
+enum { BIDS = 8, SEGMENTS = 6, CHOICES = 7 * 7 * 7 * 7 * 7 * 7 * 7 * 7, SHEET_LIMIT = 39 + BIDS * 66 };
 
 /* Texts */
 
@@ -91,8 +91,8 @@ struct answers {
     struct output table, table_written, sheet_by_table, page_by_table; /* the printed table, and the answers by it */
     struct award award_by_table;
     struct {
-        uint64_t number, place, bytes;
-    } room;
+        uint64_t number, place, bytes, choices, sheet;
+    } sizes;
     struct {
         uint64_t number, place, meets, quantities[BIDS];
         int64_t price;
@@ -141,12 +141,12 @@ static void *call_entries(void *answers)
     size_t length = a->book->length;
     uint64_t bid;
 
-    call_output(boccelarch_sheet, a->book, BOCCELARCH_SHEET_BYTES, &a->sheet);
+    a->sizes.number = boccelarch_sizes(text, length, &a->sizes.place, &a->sizes.bytes, &a->sizes.choices, &a->sizes.sheet);
+    call_output(boccelarch_sheet, a->book, SHEET_LIMIT, &a->sheet);
     call_output(boccelarch_page, a->book, BOCCELARCH_PAGE_BYTES, &a->page);
-    call_output(boccelarch_write, a->book, BOCCELARCH_TEXT_BYTES, &a->written);
+    call_output(boccelarch_write, a->book, length, &a->written);
     a->award.number = boccelarch_award(text, length, a->award.rows, BOCCELARCH_AWARD_NUMBERS, &a->award.place, &a->award.bought,
                                        &a->award.total, &a->award.count);
-    a->room.number = boccelarch_room(text, length, &a->room.place, &a->room.bytes);
     for (bid = 0; bid < BIDS; bid++)
         a->split.quantities[bid] = in_award(a, bid, BOCCELARCH_QUANTITY);
     a->split.number = boccelarch_split(text, length, a->split.quantities, BIDS, &a->split.place, &a->split.price, &a->split.meets);
@@ -300,10 +300,12 @@ static void check_answers(const struct answers *a, uint64_t demand, const struct
     expect_output("page", &page, &a->page);
     expect_output("book written out", a->book, &a->written);
     expect_accepted("award", a->award.number, a->award.place);
-    expect_accepted("room figure", a->room.number, a->room.place);
+    expect_accepted("sizes", a->sizes.number, a->sizes.place);
     expect_accepted("split", a->split.number, a->split.place);
 
-    expect_number("room figure", ROOM, a->room.bytes);
+    expect_number("bytes of the book", a->book->length, a->sizes.bytes);
+    expect_number("choices of segments", CHOICES, a->sizes.choices);
+    expect_number("limit of the sheet", SHEET_LIMIT, a->sizes.sheet);
     expect_number("bids", BIDS, a->award.count);
     expect_number("bought", expected->bought, a->award.bought);
     expect_number("quantities", a->award.bought, sum(a, BOCCELARCH_QUANTITY));

@@ -317,6 +317,34 @@ static void check_samples(void)
     }
 }
 
+/* An output of as many bytes as the limit is long enough for the sheet by any table that passes. */
+static void check_limit(const char *name, struct text table, const struct cleared *book)
+{
+    enum arrangement how;
+
+    for (how = GUARDED; how <= EXACT; how++) {
+        struct lent out = lend(how, book->limit);
+        uint64_t place, bytes;
+
+        situate("sheet by table", name, book->text.length, book->limit, how);
+        expect_number("refusal", BOCCELARCH_ACCEPTED,
+                      boccelarch_sheet_by_table((const uint8_t *)table.bytes, table.length, (const uint8_t *)book->text.bytes,
+                                                book->text.length, out.bytes, book->limit, &place, &bytes));
+        expect_number("more bytes than the limit", 0, bytes > book->limit);
+        release("output", &out);
+    }
+}
+
+static void check_limits(void)
+{
+    const struct cleared *book;
+    size_t i;
+
+    for (book = cleared; book < cleared + COUNT(cleared); book++)
+        for (i = 0; i < COUNT(passing); i++)
+            check_limit(book->name, passing[i].table, book);
+}
+
 /* By the printed table every book of cases.h has the sheet, the page and the rows that it has without a table. */
 static void check_books_by_printed_table(void)
 {
@@ -335,7 +363,8 @@ static void check_books_by_printed_table(void)
     }
 }
 
-/* Eight bidders with the widest numbers, seven of whom sell 125,000 each: by a sample of 99,999 too, BOCCELARCH_SHEET_BYTES are enough. */
+/* Eight bidders with the widest numbers, of whom seven sell 125,000 each, or all do: by a sample of 99,999 too, BOCCELARCH_SHEET_BYTES and
+ * the limit of 567 are enough. */
 #define SELLS_WIDE(bidder, without) "(buy " #bidder " 1 125000 1125000000000 99999 (without " #without "))\n"
 #define PAGE_SELLS_WIDE(bidder, without) "  " #bidder "   1    125000      11250000000.00 99999" without "\n"
 
@@ -346,9 +375,15 @@ static void check_widest(void)
         TEXT("(award 875000 875000 7875000000000)\n" SEVEN_LINES(SELLS_WIDE, 7875000000000) SELLS_NOTHING(9999, 7875000000000));
     static const struct text page = TEXT("              875000              875000          78750000000.00\n" SEVEN_LINES(
         PAGE_SELLS_WIDE, "    78750000000.00") PAGE_SELLS_NOTHING(9999, "    78750000000.00"));
+    static const struct text shared_book = TEXT(ORDER(1000000, 1000000) EIGHT_OF_TWO);
+    static const struct text widest_sheet =
+        TEXT("(award 1000000 1000000 8000000000000)\n" SEVEN_LINES(SELLS_FIRST, 99999) SELLS_FIRST(9999, 99999));
 
     check_written(SHEET_BY, "samples of 99999", widest_table, book, sheet);
     check_written(PAGE_BY, "samples of 99999", widest_table, book, page);
+    check_written(SHEET_BY, "the widest sheet", widest_table, shared_book, widest_sheet);
+    check_output(SHEET_BY, "the widest sheet", widest_table, shared_book, 567, output_in(widest_sheet, 567));
+    expect_number("bytes of the widest sheet here", 550, widest_sheet.length);
 }
 
 /* Refusals */
@@ -462,6 +497,7 @@ int main(void)
     check_written_tables();
     check_samples();
     check_books_by_printed_table();
+    check_limits();
     check_widest();
     check_refused_tables();
     check_refused_books();

@@ -1,4 +1,5 @@
-//! The bid book: its numbers taken from a text, the rules 1 to 8, the book written again, the room figure and the price of a split.
+//! The bid book: its numbers taken from a text, the rules 1 to 8, the book written again, the three figures that need no clearing, and the
+//! price of a split.
 
 use crate::shape::Shape;
 
@@ -28,6 +29,15 @@ pub struct Book {
 pub struct Refusal {
     pub number: u64,
     pub place: u64,
+}
+
+/// What is known of a book before it is cleared: how long its text is, how many choices of segments there are, and how long its sheet is at
+/// most.
+#[derive(Clone, Copy, Debug, PartialEq)]
+pub struct Sizes {
+    pub bytes: usize,
+    pub choices: u64,
+    pub sheet: usize,
 }
 
 pub fn refusal(number: u64, place: usize) -> Refusal {
@@ -139,9 +149,14 @@ impl Book {
         format!("(demand {} {})\n{bids}", self.demand, self.allowance).into_bytes()
     }
 
-    pub fn room(&self) -> u64 {
-        let segments: usize = self.bids.iter().map(|bid| bid.segments.len()).sum();
-        (25 + 17 * self.bids.len() + 45 * segments) as u64
+    /// Of each bid one of its segments is chosen, or segment 0.
+    pub fn sizes(&self) -> Sizes {
+        let choices = self.bids.iter().map(|bid| bid.segments.len() as u64 + 1).product();
+        Sizes { bytes: self.written().len(), choices, sheet: self.sheet_limit() }
+    }
+
+    pub fn sheet_limit(&self) -> usize {
+        39 + 66 * self.bids.len()
     }
 
     /// Whether so many blanks are taken: at least the demand, and at most demand and allowance.

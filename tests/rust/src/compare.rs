@@ -31,6 +31,8 @@ pub struct Counts {
     pub none: u64,
     /// Pages of the product that were read back.
     pub pages: u64,
+    /// Sheets of the product that were held against the limit of their length.
+    pub sheets: u64,
     /// Samples of the product that were looked at.
     pub samples: u64,
     /// Tables that were loaded, and those of them that pass.
@@ -47,6 +49,10 @@ pub struct Comparer {
     pub refusals: [u64; 13],
     /// The rules that tables broke alone in their first wrong line, each with the line.
     pub faults: BTreeSet<(Rule, usize)>,
+    /// The length of the product's widest sheet for each number of bids.
+    pub widest: [usize; 9],
+    /// The lengths of accepted texts, as the product gives them.
+    pub lengths: BTreeSet<u64>,
     /// The printed table as the product writes it.
     printed_table: Rc<Loaded>,
     distinct: HashSet<Vec<u8>>,
@@ -68,6 +74,8 @@ impl Comparer {
             counts: Counts::default(),
             refusals: [0; 13],
             faults: BTreeSet::new(),
+            widest: [0; 9],
+            lengths: BTreeSet::new(),
             distinct: HashSet::new(),
             distinct_tables: HashSet::new(),
             printed: PRINTED,
@@ -107,9 +115,7 @@ impl Comparer {
         for call in calls(&judged) {
             let expected = judged.answer(&call);
             let answer = self.call(text, &call, &expected);
-            if answer.refusal == 0 {
-                self.look_at(text, &judged, &call, &answer);
-            }
+            self.look_at(text, &judged, &call, &answer);
             if again.is_none() && by_turn(turn, &call) {
                 again = Some((call, answer));
             }
@@ -121,12 +127,31 @@ impl Comparer {
     }
 
     /// What holds of an answer that is no refusal.
-    fn look_at(&mut self, text: &[u8], judged: &Judged, call: &Call, answer: &Answer) {
+    pub fn look_at(&mut self, text: &[u8], judged: &Judged, call: &Call, answer: &Answer) {
+        if answer.refusal != 0 {
+            return;
+        }
         match call {
+            Call::Sheet(_) | Call::SheetByTable(..) => self.within_limit(text, judged, answer),
+            Call::Sizes => {
+                self.lengths.insert(answer.numbers[0]);
+            }
             Call::Page(_) => self.read_back(text, judged.sheet(), answer),
             Call::PageByTable(loaded, _) => self.read_back(text, judged.sheet_by(loaded.table()), answer),
             Call::AwardByTable(loaded, _) => self.sampled_well(text, loaded, answer),
             _ => {}
+        }
+    }
+
+    /// No sheet is longer than the limit that is known without clearing, whatever the table.
+    fn within_limit(&mut self, text: &[u8], judged: &Judged, answer: &Answer) {
+        let Ok(book) = &judged.reading else { return };
+        let bytes = answer.numbers[0] as usize;
+        let widest = &mut self.widest[book.bids.len()];
+        *widest = bytes.max(*widest);
+        self.counts.sheets += 1;
+        if bytes > book.sheet_limit() {
+            self.different(|| format!("a sheet of {bytes} bytes, the text \"{}\"", text.escape_ascii()));
         }
     }
 

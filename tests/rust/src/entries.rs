@@ -9,7 +9,7 @@ extern "C" {
     fn boccelarch_sheet(text: *const u8, text_length: usize, out: *mut u8, out_length: usize, place: *mut u64, bytes: *mut u64) -> u64;
     fn boccelarch_page(text: *const u8, text_length: usize, out: *mut u8, out_length: usize, place: *mut u64, bytes: *mut u64) -> u64;
     fn boccelarch_write(text: *const u8, text_length: usize, out: *mut u8, out_length: usize, place: *mut u64, bytes: *mut u64) -> u64;
-    fn boccelarch_room(text: *const u8, text_length: usize, place: *mut u64, bytes: *mut u64) -> u64;
+    fn boccelarch_sizes(text: *const u8, text_length: usize, place: *mut u64, bytes: *mut u64, choices: *mut u64, sheet: *mut u64) -> u64;
     fn boccelarch_split(
         text: *const u8,
         text_length: usize,
@@ -79,7 +79,7 @@ pub enum Call {
     Sheet(usize),
     Page(usize),
     Write(usize),
-    Room,
+    Sizes,
     Split(Vec<u64>),
     Award(usize),
     SheetByTable(Rc<Loaded>, usize),
@@ -109,8 +109,9 @@ impl Call {
     }
 }
 
-/// What a call gives back: the numbers behind pointers besides the place (bytes; price and meets; bought, total and count; 0 where there
-/// is no second or third), the lent output whole, and whether text, table, quantities and all guards are unchanged.
+/// What a call gives back: the numbers behind pointers besides the place (bytes; bytes, choices and sheet; price and meets; bought, total
+/// and count; 0 where there is no second or third), the lent output whole, and whether text, table, quantities and all guards are as they
+/// were.
 #[derive(Clone, Debug, PartialEq)]
 pub struct Answer {
     pub refusal: u64,
@@ -129,7 +130,7 @@ pub fn pattern(length: usize) -> Vec<u8> {
 fn lent(call: &Call) -> (usize, &[u64]) {
     match call {
         Call::Sheet(length) | Call::Page(length) | Call::Write(length) => (*length, &[]),
-        Call::Room => (0, &[]),
+        Call::Sizes => (0, &[]),
         Call::Split(quantities) => (0, quantities),
         Call::Award(length) | Call::AwardByTable(_, length) => (8 * length, &[]),
         Call::SheetByTable(_, length) | Call::PageByTable(_, length) => (*length, &[]),
@@ -188,7 +189,7 @@ impl Entries {
 /// How many numbers a call sets besides the place.
 fn count_of(call: &Call) -> usize {
     match call {
-        Call::Award(_) | Call::AwardByTable(..) => 3,
+        Call::Sizes | Call::Award(_) | Call::AwardByTable(..) => 3,
         Call::Split(_) => 2,
         _ => 1,
     }
@@ -208,7 +209,7 @@ fn enter(call: &Call, (text, length): Text, (table, size): Text, lent: *mut u8, 
             Call::Sheet(bytes) => boccelarch_sheet(text, length, lent, *bytes, place, first),
             Call::Page(bytes) => boccelarch_page(text, length, lent, *bytes, place, first),
             Call::Write(bytes) => boccelarch_write(text, length, lent, *bytes, place, first),
-            Call::Room => boccelarch_room(text, length, place, first),
+            Call::Sizes => boccelarch_sizes(text, length, place, first, second, third),
             Call::Split(list) => boccelarch_split(text, length, lent.cast(), list.len(), place, first.cast(), second),
             Call::Award(rows) => boccelarch_award(text, length, lent.cast(), *rows, place, first, second, third),
             Call::SheetByTable(_, bytes) => boccelarch_sheet_by_table(table, size, text, length, lent, *bytes, place, first),

@@ -17,7 +17,9 @@ pub struct Judged {
 
 impl Judged {
     pub fn new(shape: &Shape, text: &[u8]) -> Self {
-        Judged { reading: Book::read(shape, text), cleared: OnceCell::new() }
+        let reading = Book::read(shape, text);
+        assert!(reading.as_ref().map_or(true, |book| book.written() == text), "an accepted text is written as it was");
+        Judged { reading, cleared: OnceCell::new() }
     }
 
     /// The book and its award, or the refusal: those of the text, then 9.
@@ -48,7 +50,7 @@ impl Judged {
         let table = table?;
         let (book, award) = self.cleared()?;
         let sheet = sheet::sheet(book, award, table);
-        assert!(sheet.len() <= 39 + 66 * book.bids.len(), "a sheet has at most 39 bytes and 66 for each bid");
+        assert!(sheet.len() <= book.sheet_limit(), "a sheet has at most 39 bytes and 66 for each bid");
         Ok(sheet)
     }
 
@@ -65,10 +67,12 @@ impl Judged {
     }
 
     pub fn written(&self) -> Result<Vec<u8>, Refusal> {
-        let book = self.book()?;
-        let text = book.written();
-        assert!(text.len() as u64 <= book.room(), "the room figure is the most that a text takes");
-        Ok(text)
+        Ok(self.book()?.written())
+    }
+
+    fn sizes(&self) -> Result<[u64; 3], Refusal> {
+        let sizes = self.book()?.sizes();
+        Ok([sizes.bytes as u64, sizes.choices, sizes.sheet as u64])
     }
 
     pub fn answer(&self, call: &Call) -> Answer {
@@ -76,7 +80,7 @@ impl Judged {
             Call::Sheet(length) => put_down(self.sheet(), *length, |bytes| [bytes, 0, 0]),
             Call::Page(length) => put_down(self.page(), *length, |bytes| [bytes, 0, 0]),
             Call::Write(length) => put_down(self.written(), *length, |bytes| [bytes, 0, 0]),
-            Call::Room => bare(self.book().map(|book| [book.room(), 0, 0])),
+            Call::Sizes => bare(self.sizes()),
             Call::Split(list) => bare(self.split(list)),
             Call::Award(length) => self.award_by(Ok(&Table::printed()), *length),
             Call::SheetByTable(loaded, length) => put_down(self.sheet_by(loaded.table()), *length, |bytes| [bytes, 0, 0]),

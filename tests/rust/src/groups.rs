@@ -6,13 +6,13 @@ use crate::entries::Call;
 use crate::expected::Judged;
 use crate::generate::books::{self, Plan, MOST};
 use crate::generate::families::{self, Family};
-use crate::generate::{broken, bytes, calls, limits};
+use crate::generate::{broken, bytes, calls, limits, widest};
 use crate::random::Random;
 use crate::tablegroups;
 
 pub type Group = (&'static str, fn(&mut Comparer, &mut Random));
 
-pub const GROUPS: [Group; 46] = [
+pub const GROUPS: [Group; 48] = [
     ("the paper's book, every demand, with and without an allowance", paper_book),
     ("small books", small_books),
     ("small books with ties", tied_books),
@@ -47,10 +47,11 @@ pub const GROUPS: [Group; 46] = [
     ("starts that pass the demand by the allowance, by one more or by one less", passed),
     ("hard books: drums", drums),
     ("other allowances, and demands in the old form", allowances),
+    ("the shortest text, and the longest and every deletion of one byte of it", shortest_and_longest),
     ("the printed table", tablegroups::printed),
     ("tables that pass", tablegroups::passing),
     ("quantities beside the limits of bands", tablegroups::limits_of_bands),
-    ("the longest sheets, with the largest samples", tablegroups::longest_sheets),
+    ("large numbers and the largest samples", tablegroups::large_numbers),
     ("tables with one rule broken, in each line", tablegroups::one_broken),
     ("tables with several rules broken", tablegroups::several_broken),
     ("seventeen bands and more", tablegroups::too_many),
@@ -59,6 +60,7 @@ pub const GROUPS: [Group; 46] = [
     ("tables beside 4,096 bytes", tablegroups::long_texts),
     ("outputs of every length by a table", tablegroups::every_length),
     ("a refused table with a refused book", tablegroups::order),
+    ("the widest sheets, by several tables", tablegroups::widest_sheets),
 ];
 
 /// Books of eight bids of six segments for each family.
@@ -150,12 +152,12 @@ fn limits_large(comparer: &mut Comparer, random: &mut Random) {
         let text = limits::book(random, 3, &demands, &allowances).written();
         usual(comparer, random, &text);
     }
-    longest_sheets(comparer, random);
+    large_numbers(comparer, random);
 }
 
-fn longest_sheets(comparer: &mut Comparer, random: &mut Random) {
+fn large_numbers(comparer: &mut Comparer, random: &mut Random) {
     for spare in [-1, 0, 1, 20_000] {
-        usual(comparer, random, &limits::longest(spare).written());
+        usual(comparer, random, &limits::large_numbers(spare).written());
     }
     for allowance in [0, 1, 999_997, 999_998, 999_999, MOST, MOST + 1] {
         usual(comparer, random, &limits::most_bought(allowance).written());
@@ -166,8 +168,12 @@ fn limits_not_cleared(comparer: &mut Comparer, random: &mut Random) {
     for _ in 0..8_000 {
         let allowances = [0, 1, 500_000, MOST - 1, MOST, MOST, MOST + 1];
         let text = limits::book(random, 8, &[1, 500_000, MOST, MOST + 1, 0], &allowances).written();
-        comparer.text(&text, |judged| calls::without_clearing(random, judged));
+        not_cleared(comparer, random, &text);
     }
+}
+
+fn not_cleared(comparer: &mut Comparer, random: &mut Random, text: &[u8]) {
+    comparer.text(text, |judged| calls::without_clearing(random, judged));
 }
 
 fn large_books(comparer: &mut Comparer, random: &mut Random) {
@@ -415,5 +421,15 @@ fn allowances(comparer: &mut Comparer, random: &mut Random) {
         let book = books::book(random, &books::SMALL).written();
         let text = bytes::allowance_replaced(random, &book);
         usual(comparer, random, &text);
+    }
+}
+
+/// The longest is not cleared: the reference would go through all its quantities, 2,000,000, for each of its 48 segments again and again.
+fn shortest_and_longest(comparer: &mut Comparer, random: &mut Random) {
+    usual(comparer, random, b"(demand 1 0)\n(bid 1 0 (seg 1 1 0 0))\n");
+    let longest = widest::longest_text().written();
+    not_cleared(comparer, random, &longest);
+    for place in 0..longest.len() {
+        not_cleared(comparer, random, &bytes::deleted(&longest, place));
     }
 }

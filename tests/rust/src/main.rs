@@ -3,9 +3,9 @@
 //! First the self-test (alone with `--self-test`), then the groups. A text is one book or what stands for one; on each several calls are
 //! made, and of each call the number returned, every number behind a pointer, every lent byte and the bytes around them are compared. In
 //! the last groups the calls are made by a sampling table or what stands for one. Each text is also given once by the printed table, as
-//! the product writes that, and the answer compared with the product's own without a table. Each page is read back by its columns, and the
-//! samples by a table are held against its bands. In the last line, passed and failed count the compared calls, the pages read back and the
-//! samples looked at: together they are all of them.
+//! the product writes that, and the answer compared with the product's own without a table. Each page is read back by its columns, the
+//! samples by a table are held against its bands, and each sheet against the limit of its length. In the last line, passed and failed count
+//! the compared calls, the pages read back, the samples and the sheets looked at: together they are all of them.
 
 #![deny(warnings)]
 
@@ -27,6 +27,7 @@ mod table;
 mod tablegroups;
 
 use compare::{Comparer, Counts};
+use generate::widest;
 use std::process::ExitCode;
 use table::{Rule, RULES};
 
@@ -107,6 +108,30 @@ fn enough_cleared(comparer: &Comparer) -> bool {
     enough
 }
 
+/// For each number of bids the widest sheet that there is must have been seen, and none that is wider.
+fn every_width(comparer: &Comparer) -> bool {
+    let seen = &comparer.widest[1..];
+    let each: Vec<String> = (1..).zip(seen).map(|(bids, bytes)| format!("{bids}: {bytes} of {}", 39 + 66 * bids)).collect();
+    println!("{} sheets held against their limit, the widest of each number of bids: {}", comparer.counts.sheets, each.join(", "));
+    let wanted = (1..).zip(seen).all(|(bids, &bytes)| bytes == widest::bytes(bids));
+    if !wanted {
+        println!("FAILED: the widest sheet that was seen is not the widest that there is");
+    }
+    wanted
+}
+
+/// The shortest and the longest accepted text that there are must have been seen, and none that is shorter or longer.
+fn shortest_and_longest(comparer: &Comparer) -> bool {
+    let lengths = &comparer.lengths;
+    let (shortest, longest) = (lengths.first().unwrap_or(&0), lengths.last().unwrap_or(&0));
+    println!("accepted texts of {} different lengths, from {shortest} to {longest} bytes", lengths.len());
+    let wanted = (*shortest, *longest) == (37, 2_201);
+    if !wanted {
+        println!("FAILED: the accepted texts are not of 37 to 2201 bytes");
+    }
+    wanted
+}
+
 fn main() -> ExitCode {
     let mut good = selftest::run();
     if std::env::args().any(|argument| argument == "--self-test") {
@@ -126,7 +151,9 @@ fn main() -> ExitCode {
     }
     let counts = comparer.counts;
     good &= enough_cleared(&comparer) & every_fault(&comparer) & enough_tables(&comparer);
+    good &= every_width(&comparer) & shortest_and_longest(&comparer);
     println!("{} texts, {} calls compared, {} pages read back, {} different", counts.texts, counts.calls, counts.pages, counts.different);
-    println!("{} passed, {} failed", counts.calls + counts.pages + counts.samples - counts.different, counts.different);
+    let all = counts.calls + counts.pages + counts.samples + counts.sheets;
+    println!("{} passed, {} failed", all - counts.different, counts.different);
     ExitCode::from(u8::from(!good || counts.different > 0))
 }

@@ -1,14 +1,14 @@
 //! The check of the reference and of the comparison: the reference against what the paper prints, against cases with carriage, with an
-//! allowance and with tables that were worked out by hand and against a listing of all divisions, and the comparison against answers that
-//! were altered.
+//! allowance and with tables that were worked out by hand, against sizes that were counted by hand and against a listing of all divisions,
+//! and the comparison against answers that were altered.
 
-use crate::book::{refusal, Bid, Book, Refusal};
+use crate::book::{refusal, Bid, Book, Refusal, Sizes};
 use crate::cases::{Case, CASES};
 use crate::clearing;
 use crate::compare::Comparer;
 use crate::entries::{Answer, Call};
 use crate::expected::Judged;
-use crate::generate::{books, bytes, families, limits, tables};
+use crate::generate::{books, bytes, families, limits, tables, widest};
 use crate::page;
 use crate::random::Random;
 use crate::shape::Shape;
@@ -171,7 +171,6 @@ fn paper_refusals(checks: &mut Checks, shape: &Shape) {
     };
     checks.check("split 60, 60, 0", book.split(&[60, 60, 0]) == Ok((47_800, true)));
     checks.check("split 60, 10, 0", book.split(&[60, 10, 0]) == Err(refusal(11, 3)));
-    checks.check("room of the paper's book", book.room() == 25 + 3 * 17 + 4 * 45);
 }
 
 /// Quantities, total and totals without each bidder.
@@ -214,10 +213,9 @@ fn carried_book(checks: &mut Checks, shape: &Shape) {
         checks.check("a split with carriages", book.split(&quantities) == Ok((price, meets)));
     }
     checks.check("nothing is carried for nothing", book.split(&[0, 0, 0]) == Ok((0, false)));
-    checks.check("room of the book with carriages", book.room() == 25 + 3 * 17 + 4 * 45);
 }
 
-/// The highest price, (1,000,000 + 10,000) × 1,000,000 + 1,000,000,000,000, and the longest line, which fills the room figure.
+/// The highest price, (1,000,000 + 10,000) × 1,000,000 + 1,000,000,000,000.
 fn carriage_at_limits(checks: &mut Checks, shape: &Shape) {
     let text = "(demand 1000000 0)\n(bid 9999 10000 (seg 1000000 1000000 1000000 1000000000000))\n";
     let sheet = "(award 1000000 1000000 2010000000000)\n(buy 9999 1 1000000 2010000000000 1250 (without none))\n";
@@ -228,9 +226,60 @@ fn carriage_at_limits(checks: &mut Checks, shape: &Shape) {
     checks.check("the page of the highest price", highest.page() == Ok(format!("{first}{bid}").into_bytes()));
     let split = highest.reading.map(|book| book.split(&[1_000_000]));
     checks.check("the highest price of a split", split == Ok(Ok((2_010_000_000_000, true))));
-    let longest = "(demand 1000000 1000000)\n(bid 9999 10000 (seg 1000000 1000000 1000000 -1000000000000))\n";
-    let room = judged(shape, longest).reading.map(|book| book.room());
-    checks.check("the room of the longest line", room == Ok(longest.len() as u64) && longest.len() == 87);
+}
+
+/// The length of a text, its choices of segments and the limit of its sheet: the shortest text, the paper's, one with bids of one to six
+/// segments, the longest text of one segment, and the longest there is. And zeros beside a refusal.
+fn sizes(checks: &mut Checks, shape: &Shape) {
+    let segments = |count: i64| (1..=count).map(|start| format!(" (seg {start} {start} 5 0)")).collect::<String>();
+    let rising: String = (1..=6).map(|bidder| format!("(bid {bidder} 0{})\n", segments(bidder))).collect();
+    let longest = String::from_utf8(widest::longest_text().written()).expect("ASCII alone");
+    let cases = [
+        ("(demand 1 0)\n(bid 1 0 (seg 1 1 0 0))\n".to_string(), 37, 2, 105),
+        (format!("(demand 120 0)\n{BIDS}"), 126, 12, 237),
+        (format!("(demand 301 0)\n{BIDS}"), 126, 12, 237),
+        (CARRIED.to_string(), 131, 12, 237),
+        (DRUMS.to_string(), 127, 12, 237),
+        (format!("(demand 9 0)\n{rising}"), 13 + 6 * 10 + 21 * 14, 5_040, 435),
+        ("(demand 1000000 1000000)\n(bid 9999 10000 (seg 1000000 1000000 1000000 -1000000000000))\n".to_string(), 87, 2, 105),
+        (longest, 2_201, 5_764_801, 567),
+    ];
+    for (text, bytes, choices, sheet) in cases {
+        let judged = judged(shape, &text);
+        let numbers = Answer { refusal: 0, place: 0, numbers: [bytes, choices, sheet], output: Vec::new(), rest_unchanged: true };
+        checks.check(&text, judged.answer(&Call::Sizes) == numbers && text.len() as u64 == bytes);
+        let sizes = Sizes { bytes: bytes as usize, choices, sheet: sheet as usize };
+        checks.check(&text, judged.reading.is_ok_and(|book| book.sizes() == sizes));
+    }
+    for (text, number, place) in [("(demand", 2, 7), ("(demand 0 0)\n(bid 3 0 (seg 1 60 400 0))\n", 5, 1)] {
+        let refused = Answer { refusal: number, place, numbers: [0; 3], output: Vec::new(), rest_unchanged: true };
+        checks.check(text, judged(shape, text).answer(&Call::Sizes) == refused);
+    }
+}
+
+/// The widest sheets of one bid, of two and of eight, worked out by hand.
+fn widest_sheets(checks: &mut Checks, shape: &Shape) {
+    let eight: String =
+        (9_992..=9_999).map(|bidder| format!("(buy {bidder} 1 125000 1000000000000 99999 (without 8010006060000))\n")).collect();
+    let cases = [
+        (1, "(award 1000000 1000000 1000000000000)\n(buy 9999 1 1000000 1000000000000 99999 (without none))\n".to_string(), 94),
+        (
+            2,
+            "(award 1000000 1000000 2000000000000)
+(buy 9998 1 500000 1000000000000 99999 (without 2010000000000))
+(buy 9999 1 500000 1000000000000 99999 (without 2010000000000))
+"
+            .to_string(),
+            166,
+        ),
+        (8, format!("(award 1000000 1000000 8000000000000)\n{eight}"), 550),
+    ];
+    let table = Table::of(&[(99_998, 1), (1_000_000, 99_999)]);
+    for (bids, sheet, bytes) in cases {
+        let widest = Judged::new(shape, &widest::shared(bids).written()).sheet_by(Ok(&table));
+        checks.check(&format!("the widest sheet, {bids} bids"), widest == Ok(sheet.clone().into_bytes()) && sheet.len() == bytes);
+        checks.check(&format!("the width of {bids} bids"), widest::bytes(bids as usize) == bytes);
+    }
 }
 
 /// Carriages in and out of range, the order of refusals in a line, and rule 8, which looks at the curve without carriage.
@@ -437,7 +486,7 @@ fn table_places(checks: &mut Checks, shape: &Shape) {
     }
 }
 
-/// The paper's book and the longest sheet by other tables.
+/// The paper's book by other tables, and the order of refusals.
 fn sheets_by_table(checks: &mut Checks, shape: &Shape, table_shape: &Shape) {
     let paper = judged(shape, &format!("(demand 120 0)\n{BIDS}"));
     let cases = [
@@ -453,9 +502,6 @@ fn sheets_by_table(checks: &mut Checks, shape: &Shape, table_shape: &Shape) {
         let table = load(table_shape, text);
         checks.check(text, paper.sheet_by(table.as_ref().map_err(|by| *by)) == Ok(sheet.into_bytes()));
     }
-    let widest = Table::of(&[(99_998, 1), (1_000_000, 99_999)]);
-    let longest = Judged::new(shape, &limits::longest(20_000).written()).sheet_by(Ok(&widest));
-    checks.check("the longest sheet", longest.is_ok_and(|sheet| (528..=567).contains(&sheet.len())));
     let first = paper.sheet_by(Err(refusal(12, 3)));
     checks.check("the table's refusal", first == Err(refusal(12, 3)));
     let both = judged(shape, "(demand").sheet_by(Err(refusal(12, 3)));
@@ -621,7 +667,7 @@ fn alter_text(checks: &mut Checks, comparer: &mut Comparer, text: &str) {
     let judged = judged(&comparer.shape, text);
     let split = Call::Split(vec![60, 60, 0]);
     let outputs = [Call::Sheet(600), Call::Sheet(9), Call::Page(585), Call::Page(9), Call::Write(300)];
-    for call in outputs.into_iter().chain([Call::Room, split, Call::Award(56)]) {
+    for call in outputs.into_iter().chain([Call::Sizes, split, Call::Award(56)]) {
         alter_answer(checks, comparer, text, &call, &judged.answer(&call));
     }
 }
@@ -647,6 +693,24 @@ fn alter_answer(checks: &mut Checks, comparer: &mut Comparer, text: &str, call: 
     }
 }
 
+/// A sheet that is longer than its limit must be counted as a difference, and one that just has it must not.
+fn limits_of_sheets(checks: &mut Checks) {
+    let mut comparer = Comparer::silent();
+    let text = format!("(demand 120 0)\n{BIDS}");
+    let judged = judged(&comparer.shape, &text);
+    let table = Rc::new(Loaded::new(&comparer.table_shape, b"(band 1000000 1)\n"));
+    for call in [Call::Sheet(600), Call::SheetByTable(table, 600)] {
+        for (bytes, different) in [(237, 0), (238, 1)] {
+            let mut answer = judged.answer(&call);
+            answer.numbers[0] = bytes;
+            let before = comparer.counts.different;
+            comparer.look_at(text.as_bytes(), &judged, &call, &answer);
+            checks.check("a sheet beside its limit", comparer.counts.different - before == different);
+        }
+    }
+    checks.check("the widest sheet that was looked at", comparer.widest == [0, 0, 0, 238, 0, 0, 0, 0, 0]);
+}
+
 /// Whether every check holds; says how many there were.
 pub fn run() -> bool {
     let (shape, table_shape) = (Shape::of_book(), Shape::of_table());
@@ -658,6 +722,8 @@ pub fn run() -> bool {
     carriage_decides(&mut checks, &shape);
     carried_book(&mut checks, &shape);
     carriage_at_limits(&mut checks, &shape);
+    sizes(&mut checks, &shape);
+    widest_sheets(&mut checks, &shape);
     carriage_refusals(&mut checks, &shape);
     allowance_cases(&mut checks, &shape);
     places(&mut checks, &shape);
@@ -667,6 +733,7 @@ pub fn run() -> bool {
     table_laws(&mut checks, &table_shape);
     listings(&mut checks);
     alterations(&mut checks);
+    limits_of_sheets(&mut checks);
     println!("self-test: {} checks, {} failed", checks.done, checks.failed);
     checks.failed == 0
 }

@@ -2,7 +2,7 @@
 
 use crate::compare::Comparer;
 use crate::generate::books::{self, Plan};
-use crate::generate::{broken, bytes, calls, limits, tables};
+use crate::generate::{broken, bytes, calls, limits, tables, widest};
 use crate::random::Random;
 use crate::table::{Loaded, Rule, Table, RULES};
 use std::rc::Rc;
@@ -91,10 +91,24 @@ fn large_limits(comparer: &mut Comparer, random: &mut Random) {
 }
 
 /// Eight bids with large numbers, sampled by 99,999 each.
-pub fn longest_sheets(comparer: &mut Comparer, random: &mut Random) {
+pub fn large_numbers(comparer: &mut Comparer, random: &mut Random) {
     let table = load(comparer, &Table::of(&[(99_998, 1), (1_000_000, 99_999)]));
     for spare in [-1, 0, 1, 20_000] {
-        by_table(comparer, random, &table, &limits::longest(spare).written());
+        by_table(comparer, random, &table, &limits::large_numbers(spare).written());
+    }
+}
+
+/// For each number of bids the widest sheet that there is, and others that are wide in some of their numbers. By the first two tables
+/// samples have five digits.
+pub fn widest_sheets(comparer: &mut Comparer, random: &mut Random) {
+    let bands = [vec![(99_998, 1), (1_000_000, 99_999)], vec![(9_999, 1), (1_000_000, 10_000)], vec![(1_000_000, 1)]];
+    let mut tables: Vec<Table> = bands.iter().map(|bands| Table::of(bands)).collect();
+    tables.extend([Table::printed(), tables::of_bands(random, 16)]);
+    let tables: Vec<Rc<Loaded>> = tables.iter().map(|table| load(comparer, table)).collect();
+    for bids in 1..=8 {
+        for book in widest::books(bids) {
+            comparer.text(&book.written(), |judged| calls::by_tables(random, judged, &tables));
+        }
     }
 }
 

@@ -28,23 +28,29 @@ fn on_refused(random: &mut Random, judged: &Judged) -> Vec<Call> {
     let length = random.pick(&[600, 600, 4096, 100, 1, 0]);
     let rows = random.pick(&[56, 56, 7, 1, 0]);
     let list = splits::any(random);
-    let others = vec![Call::Sheet(length), Call::Write(length), Call::Room, Call::Split(list), Call::Award(rows)];
+    let others = vec![Call::Sheet(length), Call::Write(length), Call::Sizes, Call::Split(list), Call::Award(rows)];
     [others, pages(judged)].concat()
+}
+
+/// A length that holds the sheet: that of every sheet, or the limit for so many bids, which needs no clearing.
+fn enough_for_sheet(random: &mut Random, judged: &Judged) -> usize {
+    let limit = judged.reading.as_ref().map_or(600, |book| book.sheet_limit());
+    random.pick(&[600, limit])
 }
 
 /// The page as above, each other entry once with room for everything, and once more with a length around the one needed or another split.
 pub fn usual(random: &mut Random, judged: &Judged) -> Vec<Call> {
     let Ok(book) = &judged.reading else { return on_refused(random, judged) };
-    let written = judged.written().expect("an accepted book").len();
+    let written = book.sizes().bytes;
     let sheet = judged.sheet().map_or(50, |bytes| bytes.len());
     let rows = 7 * book.bids.len();
     let mut calls = pages(judged);
     calls.extend([
-        Call::Sheet(600),
+        Call::Sheet(enough_for_sheet(random, judged)),
         Call::Sheet(around(random, sheet)),
-        Call::Write(random.pick(&[4096, book.room() as usize])),
+        Call::Write(random.pick(&[4096, written])),
         Call::Write(around(random, written)),
-        Call::Room,
+        Call::Sizes,
         Call::Award(56),
         Call::Award(around(random, rows)),
     ]);
@@ -59,15 +65,16 @@ pub fn usual(random: &mut Random, judged: &Judged) -> Vec<Call> {
 pub fn once(random: &mut Random, judged: &Judged) -> Vec<Call> {
     let Ok(book) = &judged.reading else { return on_refused(random, judged) };
     let split = splits::of_kind(random, judged, book, 0);
-    let others = vec![Call::Sheet(600), Call::Write(4096), Call::Room, Call::Split(split), Call::Award(56)];
+    let sheet = Call::Sheet(enough_for_sheet(random, judged));
+    let others = vec![sheet, Call::Write(4096), Call::Sizes, Call::Split(split), Call::Award(56)];
     [others, pages(judged)].concat()
 }
 
 /// The entries that do not clear, with each kind of split.
 pub fn without_clearing(random: &mut Random, judged: &Judged) -> Vec<Call> {
     let Ok(book) = &judged.reading else { return on_refused(random, judged) };
-    let written = judged.written().expect("an accepted book").len();
-    let mut calls = vec![Call::Write(4096), Call::Write(around(random, written)), Call::Room];
+    let written = book.sizes().bytes;
+    let mut calls = vec![Call::Write(4096), Call::Write(written), Call::Write(around(random, written)), Call::Sizes];
     for kind in 3..splits::KINDS {
         calls.push(Call::Split(splits::of_kind(random, judged, book, kind)));
     }
@@ -94,6 +101,14 @@ pub fn many_splits(random: &mut Random, judged: &Judged) -> Vec<Call> {
     kinds.map(|kind| Call::Split(splits::of_kind(random, judged, book, kind))).collect()
 }
 
+/// As `by_table`, by each of these tables, and the sheet in an output of just the limit; and the sizes, which know of no table.
+pub fn by_tables(random: &mut Random, judged: &Judged, tables: &[Rc<Loaded>]) -> Vec<Call> {
+    let limit = judged.reading.as_ref().map_or(600, |book| book.sheet_limit());
+    let at_limit = tables.iter().map(|table| Call::SheetByTable(table.clone(), limit));
+    let by_each = tables.iter().flat_map(|table| by_table(random, judged, table));
+    by_each.chain(at_limit).chain([Call::Sizes, Call::Sheet(limit)]).collect()
+}
+
 /// The entries by this table, each with room for everything and with a length around the one needed, and the table written again.
 pub fn by_table(random: &mut Random, judged: &Judged, table: &Rc<Loaded>) -> Vec<Call> {
     let sheet = judged.sheet_by(table.table()).map_or(50, |bytes| bytes.len());
@@ -101,7 +116,7 @@ pub fn by_table(random: &mut Random, judged: &Judged, table: &Rc<Loaded>) -> Vec
     let rows = judged.reading.as_ref().map_or(7, |book| 7 * book.bids.len());
     let mut calls = written_table(random, table);
     calls.extend([
-        Call::SheetByTable(table.clone(), 600),
+        Call::SheetByTable(table.clone(), enough_for_sheet(random, judged)),
         Call::SheetByTable(table.clone(), around(random, sheet)),
         Call::PageByTable(table.clone(), 585),
         Call::PageByTable(table.clone(), around(random, page)),

@@ -68,8 +68,8 @@ pub fn bought(quantity: i64, fixed: i64) -> Book {
     Book { demand: quantity, allowance: 0, bids: vec![bid(10, first), bid(100, second)] }
 }
 
-/// Eight bids whose sheet is as long as a sheet can be made here: large quantities, prices and totals.
-pub fn longest(spare: i64) -> Book {
+/// Eight bids with large quantities, prices and totals, which offer eight times the spare blanks more than the demand.
+pub fn large_numbers(spare: i64) -> Book {
     let dear = |start, end| Segment { start, end, unit: MOST, fixed: MOST_FIXED };
     let bid = |index: i64| Bid { bidder: 9_992 + index, carriage: MOST_CARRIAGE, segments: vec![dear(100_000, 125_000 + spare)] };
     Book { demand: MOST, allowance: 0, bids: (0..8).map(bid).collect() }

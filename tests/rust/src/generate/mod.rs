@@ -8,3 +8,4 @@ pub mod families;
 pub mod limits;
 pub mod splits;
 pub mod tables;
+pub mod widest;
