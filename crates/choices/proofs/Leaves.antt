@@ -10,7 +10,7 @@ use Rattle.divisions.specs.Award.{Priced, pick}
 use Rattle.divisions.proofs.IsBest.{IsBest, best-iff, best-pick}
 use Rattle.choices.specs.Choice.{fits, filled}
 use Rattle.choices.specs.Leaf.{Leaf}
-use Rattle.choices.specs.Search.{each, leaf, search}
+use Rattle.choices.specs.Search.{each, through, leaf, search}
 
 -- where f brings in what L has for each segment, going through the segments brings in what L has for any of them
 module _ (L : Segment → Priced → Type 0) (f : Segment → Option Priced → Option Priced)
@@ -57,7 +57,7 @@ leaf-best order c P o b = go (fits order c) refl
 
 pub search-best : (order : Order) (supplies : List (List Segment)) (c : List Segment) (P : Priced → Type 0) (o : Option Priced) → IsBest P o
     → IsBest (λ d. P d ⊎ Leaf order supplies c d) (search order supplies c o)
-unfolding search
+unfolding search through
 search-best order [] c P o b = leaf-best order c P o b
 search-best order (ss ∷ supplies) c P o b =
     each-best (λ s. Leaf order supplies (s ∷ c)) (λ s. search order supplies (s ∷ c)) (λ s. search-best order supplies (s ∷ c)) P o b ss

@@ -6,8 +6,8 @@ use Rattle.lists.specs.Joined.{joined}
 use Rattle.book.specs.declared.Segment.{Segment}
 use Rattle.book.specs.declared.Order.{Order}
 use Rattle.divisions.specs.Award.{Priced}
-use Rattle.choices.specs.Listed.{choicesFrom}
-use Rattle.choices.specs.Search.{each, leaf, search}
+use Rattle.choices.specs.Listed.{choicesFrom, allChoices}
+use Rattle.choices.specs.Search.{each, through, leaf, search}
 
 module _ {A B : Type 0} (f : A → B → B) where
   each-append : (xs ys : List A) (o : B) → each f (xs ++ ys) o ≡ each f xs (each f ys o)
@@ -23,10 +23,16 @@ module _ {A B : Type 0} (f : A → B → B) where
   each-joined g h same (x ∷ xs) o =
       same x _ ∙ ap (each f (g x)) (each-joined g h same xs o) ∙ sym (each-append (g x) (joined g xs) o)
 
-pub search-listed : (order : Order) (supplies : List (List Segment)) (c : List Segment) (best : Option Priced)
-    → search order supplies c best ≡ each (leaf order) (choicesFrom supplies c) best
-unfolding each search
-search-listed order [] c best = refl
-search-listed order (ss ∷ supplies) c best =
-    each-joined (leaf order) (λ (s : Segment). choicesFrom supplies (s ∷ c)) (λ s. search order supplies (s ∷ c))
-    (λ s o. search-listed order supplies (s ∷ c) o) ss best
+-- whatever is done at each, it is done at each of the list
+pub through-listed : {B : Type 0} (f : List Segment → B → B) (supplies : List (List Segment)) (c : List Segment) (o : B)
+    → through f supplies c o ≡ each f (choicesFrom supplies c) o
+unfolding each through
+through-listed f [] c o = refl
+through-listed f (ss ∷ supplies) c o =
+    each-joined f (λ (s : Segment). choicesFrom supplies (s ∷ c)) (λ s. through f supplies (s ∷ c))
+    (λ s q. through-listed f supplies (s ∷ c) q) ss o
+
+pub search-listed : (order : Order) (supplies : List (List Segment)) (best : Option Priced)
+    → search order supplies [] best ≡ each (leaf order) (allChoices supplies) best
+unfolding search
+search-listed order supplies best = through-listed (leaf order) supplies [] best

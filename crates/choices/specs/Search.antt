@@ -12,14 +12,18 @@ unfoldable pub each : {A B : Type 0} → (A → B → B) → List A → B → B
 each f [] o = o
 each f (x ∷ xs) o = f x (each f xs o)
 
--- a complete choice
+-- f for each complete choice: the choice so far, with a segment for each of the bidders left
+unfoldable pub through : {B : Type 0} → (List Segment → B → B) → List (List Segment) → List Segment → B → B
+through f [] c o = f c o
+through f (ss ∷ supplies) c o = each (λ s. through f supplies (s ∷ c)) ss o
+
+-- the better of the best so far and what a complete choice gives, if it fits
 unfoldable pub leaf : Order → List Segment → Option Priced → Option Priced
 leaf order c best = cond (fits order c) (pick best (filled order c)) best
 
--- the choice so far, with a segment for each of the bidders left
+-- the best so far, or a better one that a complete choice gives
 unfoldable pub search : Order → List (List Segment) → List Segment → Option Priced → Option Priced
-search order [] c best = leaf order c best
-search order (ss ∷ supplies) c best = each (λ s. search order supplies (s ∷ c)) ss best
+search order supplies c best = through (leaf order) supplies c best
 
 -- from no choice and no division
 abbrev pub searched : Order → List (List Segment) → Option Priced

@@ -20,7 +20,7 @@ use Rattle.supply.proofs.Supplies.{supplies-done, supplies-next}
 use Rattle.supply.proofs.Accepted.{sound-segment-at}
 use Rattle.divisions.specs.Award.{Priced, pick}
 use Rattle.choices.specs.Choice.{fits, filled}
-use Rattle.choices.specs.Search.{each, leaf, search}
+use Rattle.choices.specs.Search.{each, through, leaf, search}
 use Rattle.choicerecord.specs.declared.Choice.{Choice}
 use Rattle.choicerecord.specs.Records.{Choosable}
 use Rattle.comparison.specs.declared.MaybeDivision.{MaybeDivision}
@@ -67,13 +67,13 @@ module _ (bids : List Bid) (n : ℕ) (held : n ≤ length bids) where
 
   module _ (order : Order) (at : ℕ) (c : List Segment) (o : Option Priced) where
     pub bidders-done : n ≤ at → search order (drop at (suppliesOf entries)) c o ≡ leaf order c o
-    unfolding search
+    unfolding search through
     bidders-done h = rw (supplies-done bids n held at h)
 
     pub bidders-next : at < n
         → search order (drop at (suppliesOf entries)) c o
         ≡ each (tried order (drop (at + 1) (suppliesOf entries)) c) (supplyOf (bidEntries (getD bids at noBid))) o
-    unfolding search
+    unfolding search through
     bidders-next h = rw (supplies-next bids n held at h)
 
 -- A choice for the first bidders of a book, and the bidder after them.

@@ -10,7 +10,7 @@ use Rattle.sampling.specs.Sampling.{printedBands, sampleAbove, sampleOf}
 use Rattle.supply.specs.Supply.{supplyOf, on, priceAt, numberFrom, segmentNumber}
 use Rattle.divisions.specs.Award.{givesMore, winsTie, better, pick}
 use Rattle.choices.specs.Choice.{fits, width, filled}
-use Rattle.choices.specs.Search.{each, leaf, search}
+use Rattle.choices.specs.Search.{each, through, leaf, search}
 use Rattle.award.specs.Award.{rowOf}
 use Rattle.without.specs.Without.{bookWithout}
 use Rattle.sheettext.specs.Sheet.{totalText, rowText, firstText, sheetText, refusalText}
@@ -23,6 +23,6 @@ use Rattle.workedcases.proofs.Test.{passes, allPass}
 
 pub computed : allPass table books ≡ true
 unfolding table books every priceOf segmentInRange bidInRange segmentsRise startNotNegative bidVerdict bidsVerdict orderInRange bookVerdict supplyOf on priceAt numberFrom segmentNumber
-    printedBands sampleAbove sampleOf givesMore winsTie better pick fits width filled each leaf search rowOf bookWithout digitsWithin digits signedDigits segmentText bidHead bidText
+    printedBands sampleAbove sampleOf givesMore winsTie better pick fits width filled each through leaf search rowOf bookWithout digitsWithin digits signedDigits segmentText bidHead bidText
     bookHead bookText totalText rowText firstText sheetText refusalText eqBytes bookSmall bookFits passes allPass
 computed = refl
