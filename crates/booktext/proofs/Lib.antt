@@ -1,4 +1,4 @@
 pub mod BookForm
 pub mod Records
 pub mod Accepted
-pub mod Short
+pub mod Lengths

@@ -17,7 +17,7 @@ use Rattle.booktext.specs.WellFormed.{WellFormedBook}
 use Rattle.booktext.specs.Arrays.{SixSegments, Arrays}
 use Rattle.booktext.proofs.Accepted.{well-formed, same-record}
 use Rattle.booktext.proofs.Records.{entries-of-record, record-arrays}
-use Rattle.booktext.proofs.Short.{text-short}
+use Rattle.booktext.proofs.Lengths.{text-short}
 use Rattle.bookreader.specs.Reading.{readOf}
 use Rattle.bookreader.proofs.Answers.{books}
 use Rattle.printer.specs.Written.{written}

@@ -17,6 +17,7 @@ use Rattle.book.specs.Rules.{bookVerdict}
 use Rattle.booktext.specs.Arrays.{Arrays}
 use Rattle.booktext.specs.WellFormed.{WellFormedBid}
 use Rattle.booktext.proofs.Accepted.{well-formed}
+use Rattle.booktext.proofs.Lengths.{text-short, text-long}
 use Rattle.output.specs.Writing.{writingVerdict, writtenOf}
 use Rattle.bookwriter.specs.Writing.{textOf}
 use Rattle.tablerules.proofs.Passing.{sample-small}
@@ -46,6 +47,8 @@ module _ (b : Book) (arrays : Arrays b) (accepted : bookVerdict (bookEntries b) 
   figures-tell = record {
     written = λ size h. rw (accepted, le-leb (length (textOf b)) size h);
     needed = λ size h. rw (accepted, lt-leb (length (textOf b)) size h);
+    least = text-long (bookEntries b) (well-formed b arrays accepted);
+    most = text-short (bookEntries b) (well-formed b arrays accepted) accepted;
     choices = sym (choices-from (bookEntries b .bids) (well-formed b arrays accepted .bids) []);
     sheet = λ table passes cleared. sheet-bound table (sample-small table passes) b (arrays .bids) cleared;
   }

@@ -20,6 +20,9 @@ pub record TheSizes (book : Book) (z : BookSizes) : Type 0 where
   -- the bytes are those of the text that is written: an output of so many gets all of it, and a shorter one refusal 10 with this number
   pub written : (size : ℕ) → z .bytes ≤ size → writeOf book size ≡ allWritten (z .bytes)
   pub needed : (size : ℕ) → size < z .bytes → writeOf book size ≡ notWritten (Refused OutputLength (z .bytes))
+  -- which are at least 37 and at most 2,201
+  pub least : 37 ≤ z .bytes
+  pub most : z .bytes ≤ 2201
   -- there are as many choices of a segment for each bidder as the model of the search has
   pub choices : z .choices ≡ length (allChoices (suppliesOf (bookEntries book .bids)))
   -- the sheet, if there is one, is no longer, with any sampling table that passes
