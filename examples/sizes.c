@@ -9,7 +9,7 @@
 #include "text.h"
 
 /* A book of more choices is warned of. How long a book takes is not known beforehand, only how many choices there are: of the books of
- * bench/RESULTS.md with 5,764,801, the most that a book can have, some take less than 0.1 ms and some more than 100 ms. */
+ * bench/RESULTS.md with 5,764,801, the most that a book can have, some take less than 0.1 ms and one more than 100 ms. */
 #define MANY_CHOICES UINT64_C(1000000)
 
 struct space {

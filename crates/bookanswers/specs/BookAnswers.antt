@@ -5,9 +5,9 @@ use Rattle.refusal.specs.Checks.{whenAccepted}
 use Rattle.refusal.specs.declared.Verdict.{Verdict}
 use Rattle.book.specs.Entries.{BookEntries, bookEntries}
 use Rattle.booktext.specs.BookText.{bookText}
+use Rattle.bookreader.specs.Reading.{readOf}
 use Rattle.output.specs.declared.TextWritten.{TextWritten}
 use Rattle.output.specs.Writing.{writtenOf, outputAfter}
-use Rattle.bookreader.specs.Reading.{readOf}
 use Rattle.sizes.specs.declared.BookSizes.{BookSizes}
 use Rattle.sizes.specs.Sizes.{sizesOf, refusedSizes}
 use Rattle.split.specs.declared.SplitPrice.{SplitPrice}

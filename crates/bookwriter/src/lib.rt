@@ -12,7 +12,7 @@ use book::Book;
 use output::TextWritten;
 use refusal::Verdict;
 
-// How many bytes the text of an accepted book has: it is put into one byte, where it does not fit.
+// How many bytes the text of an accepted book has, also for `sizes`: it is put into one byte, where it does not fit.
 pub fn measure(book: Book) -> usize
     requires { ⌜ bookVerdict (bookEntries book) ≡ Accepted ⌝ }
     ensures { λ r. ⌜ r ≡ length (textOf book) ⌝ }

@@ -1,5 +1,4 @@
-// What is known of a book before it is cleared: how long its text is, how many choices of segments it has, and how long its sheet is at
-// most.
+// What is known of a book before it is cleared (document 02, change 6).
 ghost use mathlib.Core.Path.{_≡_};
 ghost use Prim.Native.Nat.{_≤_};
 ghost use Rattle.refusal.specs.declared.Verdict.the-variants.{Accepted};
@@ -9,7 +8,8 @@ ghost use Rattle.sizes.specs.Sizes.{choicesOf, sheetLimit, refusedSizes,
 use book::Book;
 use refusal::Verdict;
 
-// The three figures, or zeros beside a refusal.
+// How many bytes the book's text has, how many choices of a segment for each bidder there are, and how many bytes its sheet
+// has at most; zeros beside a refusal.
 pub struct BookSizes {
     pub verdict: Verdict,
     pub bytes: u64,
@@ -33,7 +33,7 @@ pub fn sizes(book: Book) -> BookSizes
     }
 }
 
-// Zeros beside a refusal.
+// Zeros beside a refusal; for `bookanswers` too.
 pub fn refused(verdict: Verdict) -> BookSizes
     ensures { λ r. ⌜ r ≡ refusedSizes verdict ⌝ }
 {

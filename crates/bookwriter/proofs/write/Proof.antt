@@ -1,11 +1,11 @@
 -- A book that breaks a rule is refused; else its text is measured, and put where it fits.
 use native.Mathlib.Omega.{arith}
 use mathlib.Core.Path.{_≡_, sym, _∙_}
-use Rattle.refusal.specs.declared.Verdict.the-variants.{Accepted}
 use borrow.Author.Needs.{needs}
-use Rattle.output.proofs.Answers.{refused-before, too-short, in-full}
+use Rattle.refusal.specs.declared.Verdict.the-variants.{Accepted}
 use Rattle.book.specs.Entries.{bookEntries}
 use Rattle.book.specs.Rules.{bookVerdict}
+use Rattle.output.proofs.Answers.{refused-before, too-short, in-full}
 use Rattle.bookwriter.specs.Writing.{textOf}
 use Rattle.bookwriter.proofs.write.Statement.{statement}
 use Rattle.bookwriter.proofs.write.Tie as tie

@@ -1,6 +1,6 @@
 -- The bids before `i` are multiplied, and the product is at most 7 to the power of `i`, since each has at most six segments.
 use Prim.Native.Nat.{ℕ, _+_, _*_, _^_, _≤_, _<_, _-_}
-use mathlib.Core.List.{List, map}
+use mathlib.Core.List.{List}
 use mathlib.Core.Path.{_≡_, sym, ap, _∙_}
 use native.Mathlib.Nat.{one-mul, mul-one, mul-assoc, mul-le-mul, pow-suc, pow-le-pow-right}
 use native.Mathlib.Numerals.{add-one}
@@ -20,7 +20,7 @@ use Rattle.sizes.proofs.choices.Tie as tie
 
 abbrev Inv-loop : tie.InvT-loop
 Inv-loop book choices₀ i₀ choices i =
-    (i ≤ book .count) × (choices ≤ 7 ^ i) × (choicesOf (bookEntries book .bids) ≡ choices * choicesOf (entriesFrom i (book .count) (book .bids)))
+    (i ≤ book .count) × (choicesOf (bookEntries book .bids) ≡ choices * choicesOf (entriesFrom i (book .count) (book .bids))) × (choices ≤ 7 ^ i)
 
 abbrev μ-loop : tie.MeasureT-loop
 μ-loop book choices₀ i₀ choices i = book .count - i
@@ -61,15 +61,20 @@ unfolding choicesOf
 choices-done bs i n h k = ap choicesOf (entries-done bs i n h k)
 
 loop-holds : tie.Need-loop-holds Inv-loop μ-loop
-loop-holds c = (omega arith, omega arith, sym (one-mul _))
+loop-holds c = (omega arith, sym (one-mul _), omega arith)
+
+-- a turn's product is small, and so are the numbers that it is made of
+turn-small : (c : tie.In-loop Inv-loop μ-loop)
+    → c .before .loop .choices * (getD (c .before .before .args .t1 .bids) (c .before .loop .i) noBid .count + 1) ≤ 7 ^ 8
+turn-small c =
+    let at = c .before .loop in
+    eight-sevens (at .choices) (at .i) _ (at .inv .2) (omega (arith, few (c .before))) (this-bid c .count-high)
 
 add-choices : tie.Need-add-choices Inv-loop μ-loop
-add-choices c = omega (arith, this-bid (c .before) .count-high)
+add-choices c = omega (arith, turn-small (c .before), this-bid (c .before) .count-high)
 
 mul-choices : tie.Need-mul-choices Inv-loop μ-loop
-mul-choices c =
-    let at = c .before .before .loop in
-    omega (arith, eight-sevens (at .choices) (at .i) _ (at .inv .1) (omega (arith, few (c .before .before))) (this-bid (c .before) .count-high))
+mul-choices c = omega (arith, turn-small (c .before), this-bid (c .before) .count-high)
 
 loop-again : tie.Need-loop-again Inv-loop μ-loop
 loop-again c =
@@ -78,15 +83,15 @@ loop-again c =
     let at = l .before .loop in
     let held : b .count ≤ length (b .bids) = omega (arith, few (l .before), eight (l .before)) in (
       omega arith,
-      omega (arith, product-small (at .choices) (at .i) _ (at .inv .1) (this-bid l .count-high)),
-      at .inv .2 ∙ choices-next (b .bids) (at .i) (b .count) (at .choices) (l .loop-test .taken) held,
+      at .inv .1 ∙ choices-next (b .bids) (at .i) (b .count) (at .choices) (l .loop-test .taken) held,
+      omega (arith, product-small (at .choices) (at .i) _ (at .inv .2) (this-bid l .count-high)),
     )
 
 returns : tie.Need-returns Inv-loop μ-loop
 returns c =
     let b = c .before .before .args .t1 in
     let at = c .before .loop in
-    sym (at .inv .2 ∙ ap (λ (n : ℕ). at .choices * n) (choices-done (b .bids) (at .i) (b .count) (at .inv .0) (c .loop-test .left)) ∙ mul-one (at .choices))
+    sym (at .inv .1 ∙ ap (λ (n : ℕ). at .choices * n) (choices-done (b .bids) (at .i) (b .count) (at .inv .0) (c .loop-test .left)) ∙ mul-one (at .choices))
 
 pub choices-spec : {M : Type 1} → statement M
 choices-spec =

@@ -1,8 +1,6 @@
 -- The check's verdict decides, as in the definition: zeros beside a refusal, else the three figures.
-use native.Mathlib.Omega.{arith}
 use mathlib.Core.Path.{_≡_, sym, _∙_}
 use borrow.Author.Needs.{needs}
-use lib.ListN.{length}
 use Rattle.lists.proofs.Slices.{length-held}
 use Rattle.refusal.specs.declared.Verdict.the-variants.{Accepted}
 use Rattle.book.specs.Entries.{bookEntries}
