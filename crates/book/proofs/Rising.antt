@@ -1,16 +1,33 @@
--- Rule 7 along a loop. Assumes nothing.
+-- Rule 7: what it says of the first segment and of those after it, and along a loop. Assumes nothing.
 use Prim.Native.Nat.{ℕ, _+_, _≤_, _<_}
 use mathlib.Core.Bool.{true, false, _&&_, and-false}
-use mathlib.Core.List.{List}
+use mathlib.Core.List.{List, _∷_}
 use mathlib.Core.Path.{_≡_, ap, _∙_}
+use borrow.Author.Tests.{ltb-true, leb-true}
 use lib.Dec.{leb, ltb}
 use lib.ListN.{length, getD}
 use lib.Seq.{slice}
 use Rattle.lists.proofs.Slices.{slice-next, slice-done}
+use Rattle.lists.proofs.Tests.{both-left, both-right}
 use Rattle.book.specs.declared.Segment.{Segment}
 use Rattle.book.specs.Rules.{segmentsRise}
 use Rattle.book.proofs.Records.{noSegment}
 
+pub record Step (before : ℕ) (s : Segment) (ss : List Segment) : Type 0 where
+  pub above : before < s .start .0
+  pub order : s .start .0 ≤ s .end .0
+  pub rest : segmentsRise (s .end .0) ss ≡ true
+
+pub step : (before : ℕ) (s : Segment) (ss : List Segment) → segmentsRise before (s ∷ ss) ≡ true → Step before s ss
+unfolding segmentsRise
+step before s ss e =
+    let a = ltb before (s .start .0) in
+    let o = leb (s .start .0) (s .end .0) in
+    let r = segmentsRise (s .end .0) ss in
+    let front = both-left (a && o) r e in
+    record { above = ltb-true before (s .start .0) (both-left a o front); order = leb-true (s .start .0) (s .end .0) (both-right a o front); rest = both-right (a && o) r e }
+
+-- along a loop
 module _ (before : ℕ) (ss : List Segment) (i n : ℕ) (more : i < n) (held : n ≤ length ss) where
   abbrev here : Segment
   here = getD ss i noSegment

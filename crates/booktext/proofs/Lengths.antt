@@ -1,12 +1,12 @@
 -- The text of an accepted book has at least 37 bytes and at most 2,201. Assumes nothing.
-use Prim.Native.Nat.{ℕ, suc, _+_, _*_, _≤_, _<_}
+use Prim.Native.Nat.{ℕ, suc, _+_, _*_, _≤_}
 use native.Mathlib.Nat.{mul-le-mul}
 use native.Mathlib.Omega.{arith}
-use mathlib.Core.Bool.{Bool, true, false, _&&_, false≢true}
+use mathlib.Core.Bool.{Bool, true, false, false≢true}
 use mathlib.Core.List.{List, [], _∷_}
 use mathlib.Core.Path.{_≡_, refl}
-use borrow.Author.Tests.{ltb-true, ltb-false, leb-true}
-use lib.Dec.{leb, ltb}
+use borrow.Author.Tests.{ltb-false}
+use lib.Dec.{ltb}
 use lib.IntN.{ℤ, pos, negsuc, natAbs}
 use lib.ListN.{length, length-append}
 use lib.Signed.{leZ}
@@ -14,7 +14,6 @@ use Rattle.lists.specs.All.{All}
 use Rattle.lists.specs.Joined.{joined}
 use Rattle.lists.proofs.All.{all-tested, all-from, all-both, all-any}
 use Rattle.lists.proofs.Joined.{joined-short, joined-long}
-use Rattle.lists.proofs.Tests.{both-left, both-right}
 use Rattle.money.specs.Price.{priceOf}
 use Rattle.refusal.specs.declared.Verdict.the-variants.{Accepted}
 use Rattle.book.specs.declared.Segment.{Segment}
@@ -23,6 +22,7 @@ use Rattle.book.specs.Rules.{segmentInRange, segmentsRise, startNotNegative, bo
 use Rattle.book.specs.Accepted.{AcceptedBid}
 use Rattle.book.proofs.Accepted.{book-accepted, all-accepted}
 use Rattle.book.proofs.InRange.{InRange, in-range}
+use Rattle.book.proofs.Rising.{step}
 use Rattle.forms.specs.Digits.{digits, signedDigits}
 use Rattle.forms.proofs.Digits.{length-below, some-digit}
 use Rattle.booktext.specs.BookText.{segmentText, bidHead, bidText, bookHead, bookText}
@@ -85,16 +85,6 @@ inner-short s r price rises below =
     let fixed = thirteen (s .unit .0) (s .start .0) (s .fixed .0) (r .unit-high) (omega arith) (r .fixed-size) price in
     simp length-append (omega arith)
 
--- what rule 7 says of the first segment, and of those after it
-first-rises : (before : ℕ) (s : Segment) (ss : List Segment) → segmentsRise before (s ∷ ss) ≡ true
-    → (before < s .start .0) × (s .start .0 ≤ s .end .0) × (segmentsRise (s .end .0) ss ≡ true)
-unfolding segmentsRise
-first-rises before s ss e =
-    let above = ltb before (s .start .0) in
-    let ordered = leb (s .start .0) (s .end .0) in
-    let here = both-left (above && ordered) (segmentsRise (s .end .0) ss) e in
-    (ltb-true before (s .start .0) (both-left above ordered here), leb-true (s .start .0) (s .end .0) (both-right above ordered here), both-right (above && ordered) _ e)
-
 abbrev Kept : Segment → Type 0
 Kept s = (segmentInRange s ≡ true) × (startNotNegative s ≡ true)
 
@@ -103,11 +93,11 @@ segments-short : (before : ℕ) (s : Segment) (ss : List Segment) → segmentsRi
     → length (joined segmentText (s ∷ ss)) ≤ 42 * length ss + 45
 segments-short before s [] e h = simp length-append (omega (arith, last-short s (in-range s (h .0 .0))))
 segments-short before s (t ∷ ss) e h =
-    let (above, ordered, later) = first-rises before s (t ∷ ss) e in
-    let ranges = in-range t (h .1 .0 .0) in
-    let below : s .end .0 ≤ 999999 = omega (arith, first-rises (s .end .0) t ss later .0, ranges .start-high) in
-    let here = inner-short s (in-range s (h .0 .0)) (h .0 .1) ordered below in
-    let rest = segments-short (s .end .0) t ss later (h .1) in
+    let rises = step before s (t ∷ ss) e in
+    let next = step (s .end .0) t ss (rises .rest) in
+    let below : s .end .0 ≤ 999999 = omega (arith, next .above, in-range t (h .1 .0 .0) .start-high) in
+    let here = inner-short s (in-range s (h .0 .0)) (h .0 .1) (rises .order) below in
+    let rest = segments-short (s .end .0) t ss (rises .rest) (h .1) in
     omega (arith, length-append (segmentText s) (joined segmentText (t ∷ ss)))
 
 bid-segments : (ss : List Segment) → segmentsRise 0 ss ≡ true → All Kept ss → length ss ≤ 6 → length (joined segmentText ss) ≤ 255

@@ -19,12 +19,13 @@ use Rattle.book.specs.Rules.{segmentInRange, segmentsRise, startNotNegative, pr
 use Rattle.book.specs.Accepted.{AcceptedBid}
 use Rattle.book.proofs.Records.{noSegment}
 use Rattle.book.proofs.InRange.{in-range}
+use Rattle.book.proofs.Rising.{step}
 use Rattle.supply.specs.Supply.{segment0, delivered, supplyOf, suppliesOf, on, offers, priceAt}
 use Rattle.supply.specs.Places.{FirstOn}
 use Rattle.supply.specs.Sound.{mostBlanks, SoundSegment}
 use Rattle.supply.proofs.Places.{first-on}
 use Rattle.supply.proofs.Offers.{found-there}
-use Rattle.supply.proofs.OneSegment.{segmentAt, on-high, step, price-there, one-there, inside-there}
+use Rattle.supply.proofs.OneSegment.{segmentAt, on-high, price-there, one-there, inside-there}
 use Rattle.supply.proofs.Carriage.{start-delivered, delivered-rise}
 use Rattle.supply.proofs.Sound.{SoundSupply}
 

@@ -2,17 +2,16 @@
 use Prim.Native.Nat.{ℕ, zero, suc, _≤_, _<_}
 use native.Mathlib.Nat.{le-of-suc-le-suc}
 use native.Mathlib.Omega.{arith}
-use mathlib.Core.Bool.{true, false, _&&_, and-false, or-false}
+use mathlib.Core.Bool.{true, false, and-false, or-false}
 use mathlib.Core.List.{List, [], _∷_, List·Memᴰ as In, List·Memᴰ·head as here, List·Memᴰ·tail as there, List·Memᴰ·not-nil}
 use mathlib.Core.Path.{_≡_, refl, ap}
-use borrow.Author.Tests.{ltb-true, leb-true, lt-leb, le-ltb}
-use lib.Dec.{leb, ltb}
+use borrow.Author.Tests.{lt-leb, le-ltb}
 use lib.ListN.{length, getD}
-use Rattle.lists.proofs.Tests.{both-left, both-right}
 use Rattle.lists.proofs.Members.{in-at}
 use Rattle.book.specs.declared.Segment.{Segment}
 use Rattle.book.specs.Rules.{segmentsRise, priceOn}
 use Rattle.book.proofs.InRange.{within-low, within-high}
+use Rattle.book.proofs.Rising.{step}
 use Rattle.supply.specs.Supply.{segment0, on, priceAt, inside, standsInside}
 
 -- segment j of a supply function, from 0 on
@@ -30,20 +29,6 @@ on-high s r e = within-high (s .start .0) (s .end .0) r e
 pub off-above : (s : Segment) (r : ℕ) → s .end .0 < r → on s r ≡ false
 unfolding on
 off-above s r h = rw (lt-leb r (s .end .0) h, and-false)
-
-pub record Step (before : ℕ) (s : Segment) (ss : List Segment) : Type 0 where
-  pub above : before < s .start .0
-  pub order : s .start .0 ≤ s .end .0
-  pub rest : segmentsRise (s .end .0) ss ≡ true
-
-pub step : (before : ℕ) (s : Segment) (ss : List Segment) → segmentsRise before (s ∷ ss) ≡ true → Step before s ss
-unfolding segmentsRise
-step before s ss e =
-    let a = ltb before (s .start .0) in
-    let o = leb (s .start .0) (s .end .0) in
-    let r = segmentsRise (s .end .0) ss in
-    let front = both-left (a && o) r e in
-    record { above = ltb-true before (s .start .0) (both-left a o front); order = leb-true (s .start .0) (s .end .0) (both-right a o front); rest = both-right (a && o) r e }
 
 -- a quantity on a later segment is above what stands before
 pub beyond : (before : ℕ) (ss : List Segment) (s : Segment) (r : ℕ) → segmentsRise before ss ≡ true → In s ss → on s r ≡ true → before < r
