@@ -3,9 +3,10 @@ use Prim.Native.Nat.{ℕ, suc, _≤_, _<_}
 use native.Mathlib.Omega.{arith}
 use mathlib.Core.List.{List, [], _∷_, map}
 use mathlib.Core.Path.{_≡_, refl, sym, ap, _∙_}
-use lib.ListN.{length, getD}
+use lib.ListN.{length, getD, List·getD-map, List·getD-eq-default}
 use lib.Seq.{getD-take}
-use Rattle.lists.proofs.Padded.{take-count, padded-past}
+use Rattle.lists.specs.Padded.{padded}
+use Rattle.lists.proofs.Padded.{length-padded, take-count, padded-at, padded-past}
 use Rattle.book.specs.Entries.{BidEntries, BookEntries}
 use Rattle.sampling.specs.Entries.{TableEntries}
 use Rattle.divisions.specs.Award.{Priced}
@@ -24,6 +25,25 @@ module _ (table : TableEntries) (b : BookEntries) where
   rows-quantities i [] (r ∷ rs) e = absurd (omega arith)
   rows-quantities i (bid ∷ bids) [] e = absurd (omega arith)
   rows-quantities i (bid ∷ bids) (r ∷ rs) e = ap (λ (qs : List ℕ). r ∷ qs) (rows-quantities (suc i) bids rs (omega arith))
+
+  -- what the row at an index sells, whatever the counts
+  pub record-quantity : (award : Priced) → length (award .quantities) ≡ length (b .bids) → (i : ℕ) → i < 8
+      → rowAt (awardRecord table b award) i .quantity .0 ≡ getD (award .quantities) i 0
+  unfolding awardRecord
+  record-quantity award as-many i h =
+      let sells : Row → ℕ = λ row. row .quantity .0 in
+      let listed = rowsFrom table b 0 (b .bids) (award .quantities) in
+      ap sells (padded-at 8 noRow listed i h)
+      ∙ sym (List·getD-map sells listed i noRow)
+      ∙ ap (λ (qs : List ℕ). getD qs i 0) (rows-quantities 0 (b .bids) (award .quantities) as-many)
+
+  -- there are eight
+  pub record-beyond : (award : Priced) (i : ℕ) → 8 ≤ i → rowAt (awardRecord table b award) i ≡ noRow
+  unfolding awardRecord
+  record-beyond award i h =
+      let listed = rowsFrom table b 0 (b .bids) (award .quantities) in
+      let few : length (padded 8 noRow listed) ≤ i = omega (arith, length-padded 8 noRow listed) in
+      List·getD-eq-default (padded 8 noRow listed) noRow few
 
   module _ (few : b .count ≤ 8) (complete : length (b .bids) ≡ b .count) (award : Priced) (as-many : length (award .quantities) ≡ length (b .bids)) where
     abbrev listed : List Row

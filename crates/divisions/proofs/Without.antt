@@ -9,12 +9,15 @@ use mathlib.Core.Path.{_≡_, refl, sym, ap, _∙_, subst}
 use lib.IntN.{ℤ, pos, _+ℤ_, +ℤ-idl}
 use lib.ListN.{length, getD}
 use Rattle.lists.specs.All.{All}
+use Rattle.lists.proofs.All.{all-any, all-map}
 use Rattle.lists.proofs.Removed.{removed}
 use Rattle.book.specs.declared.Segment.{Segment}
 use Rattle.book.specs.declared.Order.{Order}
-use Rattle.supply.specs.Supply.{offers, priceAt}
+use Rattle.book.specs.Entries.{BidEntries}
+use Rattle.supply.specs.Supply.{supplyOf, suppliesOf, offers, priceAt}
 use Rattle.supply.specs.Allocation.{bought, costOf}
 use Rattle.supply.specs.Meets.{meets}
+use Rattle.supply.proofs.Supply.{nothing-offered, nothing-free}
 use Rattle.divisions.specs.Division.{Allocation}
 use Rattle.divisions.specs.Award.{Priced, givesMore, winsTie, better, awardOf}
 use Rattle.divisions.proofs.IsBest.{IsBest, best-unique}
@@ -24,6 +27,10 @@ use Rattle.divisions.proofs.Award.{PricedDivision, award-best}
 pub record SellsNothing (ss : List Segment) : Type 0 where
   pub offered : offers ss 0 ≡ true
   pub free : priceAt ss 0 ≡ pos 0
+
+-- as every bid's is
+pub all-sell-nothing : (bids : List BidEntries) → All SellsNothing (suppliesOf bids)
+all-sell-nothing bids = all-map supplyOf SellsNothing bids (all-any _ (λ b. record { offered = nothing-offered b; free = nothing-free b }) bids)
 
 -- the quantities with a bidder at index i who gets nothing
 abbrev withNothing : ℕ → List ℕ → List ℕ

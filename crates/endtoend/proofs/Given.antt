@@ -59,14 +59,18 @@ module _ (t : List ℕ) (b : BookEntries) (is : AcceptedText t b) where
   book-passes = ap bookVerdict (sym (entries-of-record b (is .says .text .well-formed) (is .accepted))) ∙ is .accepted
 
   module _ (table : TableEntries) where
-    cleared-as-book : clearTextSampled table t .verdict ≡ clearSampled table b .verdict
-    cleared-as-book = ap (λ (c : Clearing). c .verdict) (cleared-book t (verdict-of read-as-book) table ∙ ap (clearSampled table) same-book)
+    -- it is cleared as its book is
+    pub cleared-as-book : clearTextSampled table t ≡ clearSampled table b
+    cleared-as-book = cleared-book t (verdict-of read-as-book) table ∙ ap (clearSampled table) same-book
+
+    same-verdict : clearTextSampled table t .verdict ≡ clearSampled table b .verdict
+    same-verdict = ap (λ (c : Clearing). c .verdict) cleared-as-book
 
     pub uncovered : ((rs : List ℕ) → DivisionOf b rs → ⊥) → clearTextSampled table t .verdict ≡ Refused NotCovered 0
-    uncovered no-division = cleared-as-book ∙ not-covered-iff b table book-passes .1 no-division
+    uncovered no-division = same-verdict ∙ not-covered-iff b table book-passes .1 no-division
 
     pub covered : (rs : List ℕ) → DivisionOf b rs → clearTextSampled table t .verdict ≡ Accepted
-    covered rs d = cleared-as-book ∙ covered-iff b table book-passes .1 (rs, d)
+    covered rs d = same-verdict ∙ covered-iff b table book-passes .1 (rs, d)
 
     -- where there is a division there is an award
     found : (rs : List ℕ) → DivisionOf b rs → TheAward table b (clearTextSampled table t .award)

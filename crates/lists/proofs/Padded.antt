@@ -1,11 +1,10 @@
 -- A list brought to a length: its entries, and one more. Assumes nothing.
 use Prim.Native.Nat.{ℕ, zero, suc, _+_, _-_, _≤_, _<_}
-use native.Mathlib.Nat.{sub-zero, suc-sub-suc, le-of-suc-le-suc}
 use native.Mathlib.Omega.{arith}
 use mathlib.Core.List.{List, [], _∷_, _++_}
 use mathlib.Core.Path.{_≡_, refl, sym, ap, _∙_}
-use lib.ListN.{length, getD, set, take, replicate, length-append, length-replicate, replicate-append-replicate}
-use lib.Seq.{take-at, take-take, take-append-le, take-append-add, take-append-seam, set-append-seam, append-snoc, length-take-le}
+use lib.ListN.{length, getD, set, take, replicate, length-append, length-replicate, replicate-append-replicate, List·getD-eq-default}
+use lib.Seq.{getD-take, take-at, take-take, take-append-le, take-append-add, take-append-seam, set-append-seam, append-snoc, length-take-le}
 use Rattle.lists.specs.Padded.{padded}
 
 module _ {A : Type 0} where
@@ -47,20 +46,24 @@ module _ {A : Type 0} where
   pub take-count : (n count : ℕ) (zero-entry : A) (xs : List A) → count ≡ length xs → count ≤ n → take count (padded n zero-entry xs) ≡ xs
   take-count n count zero-entry xs e h = rw e (take-padded n zero-entry xs (omega arith))
 
-  -- past it, zero entries
   getD-replicate : (k i : ℕ) (zero-entry : A) → getD (replicate k zero-entry) i zero-entry ≡ zero-entry
   getD-replicate zero i zero-entry = refl
   getD-replicate (suc k) zero zero-entry = refl
   getD-replicate (suc k) (suc i) zero-entry = getD-replicate k i zero-entry
 
-  getD-past : (xs ys : List A) (i : ℕ) (d : A) → length xs ≤ i → getD (xs ++ ys) i d ≡ getD ys (i - length xs) d
-  getD-past [] ys i d h = rw sub-zero
-  getD-past (x ∷ xs) ys zero d h = absurd (omega arith)
-  getD-past (x ∷ xs) ys (suc i) d h = getD-past xs ys i d (le-of-suc-le-suc h) ∙ rw suc-sub-suc
+  -- at any place, the entry itself or a zero entry
+  getD-zeros : (xs : List A) (k i : ℕ) (zero-entry : A) → getD (xs ++ replicate k zero-entry) i zero-entry ≡ getD xs i zero-entry
+  getD-zeros [] k i zero-entry = getD-replicate k i zero-entry
+  getD-zeros (x ∷ xs) k zero zero-entry = refl
+  getD-zeros (x ∷ xs) k (suc i) zero-entry = getD-zeros xs k i zero-entry
 
+  pub padded-at : (n : ℕ) (zero-entry : A) (xs : List A) (i : ℕ) → i < n → getD (padded n zero-entry xs) i zero-entry ≡ getD xs i zero-entry
+  padded-at n zero-entry xs i h = getD-take n (xs ++ replicate n zero-entry) i zero-entry h ∙ getD-zeros xs n i zero-entry
+
+  -- past the entries, zero entries
   pub padded-past : (n : ℕ) (zero-entry : A) (xs : List A) (i : ℕ) → length xs ≤ n → length xs ≤ i → getD (padded n zero-entry xs) i zero-entry ≡ zero-entry
   padded-past n zero-entry xs i few past =
       let k = n - length xs in
       ap (λ (l : List A). getD l i zero-entry) (padded-split n k zero-entry xs (omega arith))
-      ∙ getD-past xs (replicate k zero-entry) i zero-entry past
-      ∙ getD-replicate k (i - length xs) zero-entry
+      ∙ getD-zeros xs k i zero-entry
+      ∙ List·getD-eq-default xs zero-entry past
