@@ -9,3 +9,4 @@ pub mod Latest
 pub mod Sums
 pub mod Members
 pub mod Removed
+pub mod Pairwise

@@ -4,3 +4,4 @@ pub mod Joined
 pub mod Padded
 pub mod Latest
 pub mod Those
+pub mod Pairwise

@@ -4,6 +4,7 @@ pub mod OneSegment
 pub mod Supply
 pub mod Supplies
 pub mod Carriage
+pub mod Compared
 pub mod Sound
 pub mod Accepted
 pub mod Orders
