@@ -1,8 +1,10 @@
 pub mod Signed
+pub mod AtMost
 pub mod Order
 pub mod IsBest
 pub mod Listed
 pub mod Award
+pub mod Dominance
 pub mod Without
 pub mod Carriage
 pub mod Before

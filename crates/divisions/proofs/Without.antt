@@ -1,4 +1,5 @@
--- A bidder who sells nothing: without it the others have the same award. Assumes nothing.
+-- A bidder who sells nothing: without it the others have the same award. And any bidder struck: what the others can sell, they could sell
+-- beside it. Assumes nothing.
 use Prim.Native.Nat.{ℕ, zero, suc, _+_, _<_}
 use native.Mathlib.Nat.{le-of-suc-le-suc, not-suc-le-zero, zero-add}
 use mathlib.Core.Bool.{true}
@@ -19,7 +20,9 @@ use Rattle.supply.specs.Allocation.{bought, costOf}
 use Rattle.supply.specs.Meets.{meets}
 use Rattle.supply.proofs.Supply.{nothing-offered, nothing-free}
 use Rattle.divisions.specs.Division.{Allocation}
-use Rattle.divisions.specs.Award.{Priced, givesMore, winsTie, better, awardOf}
+use Rattle.divisions.specs.Award.{Priced, priced, givesMore, winsTie, better, awardOf}
+use Rattle.divisions.specs.NoDearer.{NoDearer}
+use Rattle.divisions.proofs.AtMost.{same-most}
 use Rattle.divisions.proofs.IsBest.{IsBest, best-unique}
 use Rattle.divisions.proofs.Award.{PricedDivision, award-best}
 
@@ -113,6 +116,12 @@ module _ (order : Order) (supplies : List (List Segment)) (nothing : All SellsNo
         cost = p .cost ∙ sym (with-cost i supplies (d .quantities) nothing bidder a);
         blanks = p .blanks ∙ sym (with-total i (d .quantities));
       }
+
+  -- what the others can sell without bidder i costs no less than with it
+  pub no-dearer-with : NoDearer order supplies order others
+  no-dearer-with rs d =
+      let p = back-division (priced others rs) (record { division = d; cost = refl; blanks = refl }) in
+      (withNothing i rs, p .division, same-most (costOf supplies (withNothing i rs)) (costOf others rs) (sym (p .cost)))
 
   module _ (award : Priced) (is-award : awardOf order supplies ≡ some award) (sells-nothing : getD (award .quantities) i 0 ≡ 0) where
     best : IsBest (PricedDivision order supplies) (some award)
