@@ -1,0 +1,2 @@
+pub mod Discount
+pub mod Raise
