@@ -63,9 +63,9 @@ module _ (cents i : ℕ) (b b′ : BookEntries) (discounted : Discounted cents i
       → getD (award .quantities) i 0 ≤ getD (award′ .quantities) i 0
   discount-sells award award′ is is′ =
       let off = changed-map supplyOf (ComparedSupply (Above cents)) i (b .bids) (b′ .bids)
-      (changed-from (CheaperBid cents) _ (cheaper-supply cents) i (b .bids) (b′ .bids) (discounted .bids)) in
+      (changed-from (CheaperBid cents) _ (cheaper-supply cents) i (b .bids) (b′ .bids) (discounted .changed .bids)) in
       sells-no-fewer (b .order) (suppliesOf (b .bids)) (suppliesOf (b′ .bids)) cents i off (discounted .one-cent) award award′ is
-      (subst (λ (order : Order). IsAward order (suppliesOf (b′ .bids)) award′) (discounted .order) is′)
+      (subst (λ (order : Order). IsAward order (suppliesOf (b′ .bids)) award′) (discounted .changed .order) is′)
 
 -- ---- raised prices cost no less
 
@@ -114,11 +114,11 @@ raised-same b = record {
 
 pub discount-raised : (cents i : ℕ) (b b′ : BookEntries) → Discounted cents i b b′ → Raised b′ b
 discount-raised cents i b b′ d = record {
-  order = sym (d .order);
-  count = sym (d .count);
+  order = sym (d .changed .order);
+  count = sym (d .changed .count);
   bids = pairwise-back _ (b .bids) (b′ .bids)
       (changed-pairwise (λ x y. RaisedBid y x) raised-same i (b .bids) (b′ .bids)
-      (changed-from (CheaperBid cents) (λ x y. RaisedBid y x) (cheaper-bid-raised cents) i (b .bids) (b′ .bids) (d .bids)));
+      (changed-from (CheaperBid cents) (λ x y. RaisedBid y x) (cheaper-bid-raised cents) i (b .bids) (b′ .bids) (d .changed .bids)));
 }
 
 -- ---- a struck bidder: the others cost no less without it

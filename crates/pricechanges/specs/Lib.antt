@@ -1,2 +1,3 @@
+pub mod Changed
 pub mod Discount
 pub mod Raise

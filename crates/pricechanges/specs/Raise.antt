@@ -5,6 +5,7 @@ use lib.Signed.{_≤ℤ_}
 use Rattle.lists.specs.Pairwise.{Pairwise}
 use Rattle.book.specs.declared.Segment.{Segment}
 use Rattle.book.specs.Entries.{BidEntries, BookEntries}
+use Rattle.pricechanges.specs.Changed.{BidChanged, BookChanged}
 
 -- of a segment each of the two prices is as it was, or raised
 pub record RaisedSegment (s s′ : Segment) : Type 0 where
@@ -13,13 +14,8 @@ pub record RaisedSegment (s s′ : Segment) : Type 0 where
   pub unit : s .unit .0 ≤ s′ .unit .0
   pub fixed : s .fixed .0 ≤ℤ s′ .fixed .0
 
-pub record RaisedBid (b b′ : BidEntries) : Type 0 where
-  pub bidder : b′ .bidder ≡ b .bidder
-  pub carriage : b′ .carriage ≡ b .carriage
-  pub count : b′ .count ≡ b .count
-  pub segments : Pairwise RaisedSegment (b .segments) (b′ .segments)
+abbrev pub RaisedBid : BidEntries → BidEntries → Type 0
+RaisedBid = BidChanged (Pairwise RaisedSegment)
 
-pub record Raised (b b′ : BookEntries) : Type 0 where
-  pub order : b′ .order ≡ b .order
-  pub count : b′ .count ≡ b .count
-  pub bids : Pairwise RaisedBid (b .bids) (b′ .bids)
+abbrev pub Raised : BookEntries → BookEntries → Type 0
+Raised = BookChanged (Pairwise RaisedBid)

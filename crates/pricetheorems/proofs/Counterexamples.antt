@@ -38,7 +38,7 @@ off-second : (cents unit : ℕ) → unit + cents ≡ 11 → 1 ≤ cents → Disc
 off-second cents unit e h =
     let segment : CheaperSegment cents (lot 1 11) (lot 1 unit) = record { start = refl; end = refl; unit = e; fixed = refl } in
     let bid : CheaperBid cents (bidOf 2 (lot 1 11 ∷ [])) (bidOf 2 (lot 1 unit ∷ [])) = record { bidder = refl; carriage = refl; count = refl; segments = (segment, tt) } in
-    record { one-cent = h; order = refl; count = refl; bids = (refl, (bid, refl)) }
+    record { one-cent = h; changed = record { order = refl; count = refl; bids = (refl, (bid, refl)) } }
 
 one-off : Discounted 1 1 asBid oneCentOff
 one-off = off-second 1 10 refl (omega arith)
@@ -69,7 +69,10 @@ somebody-loses law = omega (arith, by-two-cents NobodyLoses law (before .covered
 off-one : DiscountedOnce 2 0 0 asBid oneSegmentOff
 off-one =
     let segment : CheaperSegment 2 (lot 1 10) (lot 1 8) = record { start = refl; end = refl; unit = refl; fixed = refl } in
-    record { one-cent = omega arith; order = refl; count = refl; bids = (record { bidder = refl; carriage = refl; count = refl; segments = (segment, refl) }, refl) }
+    record {
+      one-cent = omega arith;
+      changed = record { order = refl; count = refl; bids = (record { bidder = refl; carriage = refl; count = refl; segments = (segment, refl) }, refl) };
+    }
 
 pub all-segments-needed : ((cents i j : ℕ) → OfBooks (DiscountedOnce cents i j) (NothingLost i)) → ⊥
 all-segments-needed law =

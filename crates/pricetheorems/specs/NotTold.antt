@@ -1,10 +1,10 @@
 -- What bidders are not told, since it is false: proofs/Counterexamples.antt has two books for each.
 use Prim.Native.Nat.{ℕ, _≤_, _<_}
-use mathlib.Core.Path.{_≡_}
 use lib.Signed.{_≤ℤ_, _<ℤ_}
 use Rattle.lists.specs.Pairwise.{ChangedAt}
-use Rattle.book.specs.Entries.{BidEntries, BookEntries}
+use Rattle.book.specs.Entries.{BookEntries}
 use Rattle.clearing.specs.declared.Clearing.{Clearing}
+use Rattle.pricechanges.specs.Changed.{BidChanged, BookChanged}
 use Rattle.pricechanges.specs.Discount.{CheaperSegment}
 use Rattle.pricetheorems.specs.Told.{Covered, quantityIn, totalIn}
 
@@ -26,15 +26,6 @@ abbrev pub StaysCovered : Clearing → Clearing → Type 0
 StaysCovered c c′ = Covered c → Covered c′
 
 -- anything of a discount on one segment alone, that with index j of the bid with index i
-
-pub record CheaperOnce (cents j : ℕ) (b b′ : BidEntries) : Type 0 where
-  pub bidder : b′ .bidder ≡ b .bidder
-  pub carriage : b′ .carriage ≡ b .carriage
-  pub count : b′ .count ≡ b .count
-  pub segments : ChangedAt j (CheaperSegment cents) (b .segments) (b′ .segments)
-
 pub record DiscountedOnce (cents i j : ℕ) (b b′ : BookEntries) : Type 0 where
   pub one-cent : 1 ≤ cents
-  pub order : b′ .order ≡ b .order
-  pub count : b′ .count ≡ b .count
-  pub bids : ChangedAt i (CheaperOnce cents j) (b .bids) (b′ .bids)
+  pub changed : BookChanged (ChangedAt i (BidChanged (ChangedAt j (CheaperSegment cents)))) b b′
