@@ -4,8 +4,8 @@
 #   path   a file, folder or heading that a page cites exists
 #   name   a name cited together with a file is declared in it
 #   edit   CLAIMS.md cites no must-fail edit that is not there, and its list of them is the one that tests/docs/edits.py makes; each edit
-#          says what it does and which function's contract it guards; every public function of a library is guarded by two or more, where
-#          those of crates below count, and every entry that README.md lists by one or more of its own crate
+#          says what it does and which function's contract, or which theorem, it guards; every public function of a library is guarded by
+#          two or more, where those of crates below count, and every entry that README.md lists by one or more of its own crate
 #   asks   CLAIMS.md lists every public function of a library that has a `requires`, and no other; no entry of README.md has one
 #   crate  ARCHITECTURE.md names every crate of crates.txt, and its table of groups no other
 #   same   where the last landing's note says that the contracts of the entries are those of a commit, they are, word for word
@@ -254,7 +254,7 @@ def check_edits():
         check(edit.text != "" and edit.guards != [], edit.path, "it does not say what it does, or what it guards")
         for guarded in edit.guards:
             crate, _, function = guarded.partition("::")
-            check(function in edits.functions(crate), edit.path, f"no function {guarded}")
+            check(function in edits.guarded(crate), edit.path, f"no function or theorem {guarded}")
     for crate in edits.crates():
         for function in edits.public(crate):
             guards = [edit for edit in there if f"{crate}::{function}" in edit.guards]

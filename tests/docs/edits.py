@@ -1,5 +1,5 @@
-# The must-fail edits as docs/CLAIMS.md lists them: by the public function whose contract each guards. What an edit does and what it guards
-# stands in the first lines of its file:
+# The must-fail edits as docs/CLAIMS.md lists them: by the public function whose contract each guards, or the theorem of a crate without code.
+# What an edit does and what it guards stands in the first lines of its file:
 #     # A demand of 0 would be accepted.
 #     # guards: bookrules::check
 # An edit may guard several functions, with commas between them. `python3 tests/docs/edits.py` puts the list into the page, from the
@@ -45,6 +45,17 @@ def functions(crate):
     return [name for path in files for name in re.findall(r"^(?:pub )?(?:extern \"C\" )?fn (\w+)", read(path), re.M)]
 
 
+def theorems(crate):
+    """What the proofs of a crate state for others, in the order of its files."""
+    files = sorted(glob.glob(f"crates/{crate}/proofs/*.antt"))
+    return [name for path in files for name in re.findall(r"^pub ([a-z][^\s:]*) :", read(path), re.M)]
+
+
+def guarded(crate):
+    """What an edit can guard: the functions of a crate, and where it has no code its theorems."""
+    return functions(crate) or theorems(crate)
+
+
 def public(crate):
     """The public functions of a library: those of lib.rt, and those of its modules that it names with `pub use`. What it hands on from
     another crate is that crate's."""
@@ -55,11 +66,11 @@ def public(crate):
 
 
 def listing():
-    """The lines of the list: a row for each function and edit, functions in the order of crates.txt and of their files."""
-    rows = ["| Contract | Wrong program | What it does |", "|---|---|---|"]
+    """The lines of the list: a row for each function or theorem and edit, in the order of crates.txt and of their files."""
+    rows = ["| Contract, or theorem | Wrong program or statement | What it does |", "|---|---|---|"]
     everything = edits()
     for crate in crates():
-        for function in functions(crate):
+        for function in guarded(crate):
             name = f"{crate}::{function}"
             for edit in [edit for edit in everything if name in edit.guards]:
                 place = "" if edit.crate == crate else f" (in `{edit.crate}`)"
