@@ -1,3 +1,5 @@
 pub mod Prices
 pub mod Divisions
-pub mod Awards
+pub mod Discount
+pub mod Raise
+pub mod Strike

@@ -13,7 +13,9 @@ use Rattle.divisions.specs.NoDearer.{BookNoDearer}
 use Rattle.divisions.proofs.Dominance.{dominance, dominance-none}
 use Rattle.pricechanges.specs.Discount.{Discounted}
 use Rattle.pricechanges.specs.Raise.{Raised}
-use Rattle.pricechanges.proofs.Awards.{discount-sells, raise-divisions, raise-no-dearer, discount-raised, strike-no-dearer}
+use Rattle.pricechanges.proofs.Discount.{discount-sells, discount-raised}
+use Rattle.pricechanges.proofs.Raise.{raise-divisions, raise-no-dearer}
+use Rattle.pricechanges.proofs.Strike.{strike-no-dearer}
 use Rattle.without.specs.Without.{bookWithout}
 use Rattle.clearing.specs.Clearing.{clearSampled}
 use Rattle.awardtheorems.proofs.Cleared.{not-covered-iff}

@@ -9,7 +9,7 @@ use Rattle.sampling.specs.Sampling.{printedTable}
 use Rattle.divisions.proofs.AtMost.{most-pos}
 use Rattle.pricechanges.specs.Discount.{CheaperSegment, CheaperBid, Discounted}
 use Rattle.pricechanges.specs.Raise.{Raised}
-use Rattle.pricechanges.proofs.Awards.{discount-raised}
+use Rattle.pricechanges.proofs.Discount.{discount-raised}
 use Rattle.without.specs.Without.{bookWithout}
 use Rattle.clearing.specs.declared.Clearing.{Clearing}
 use Rattle.clearing.specs.Clearing.{clearOf}

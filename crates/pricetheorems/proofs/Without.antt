@@ -13,7 +13,7 @@ use Rattle.book.specs.Entries.{BookEntries, bookEntries}
 use Rattle.sampling.specs.Entries.{TableEntries}
 use Rattle.supply.specs.Supply.{suppliesOf}
 use Rattle.divisions.proofs.Dominance.{dominance}
-use Rattle.pricechanges.proofs.Awards.{strike-no-dearer}
+use Rattle.pricechanges.proofs.Strike.{strike-no-dearer}
 use Rattle.without.specs.Without.{bookWithout}
 use Rattle.clearing.specs.Clearing.{clearSampled}
 use Rattle.awardtheorems.specs.Awarded.{awarded}

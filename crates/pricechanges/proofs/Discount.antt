@@ -1,16 +1,14 @@
--- The award at other prices: a discount sells no fewer blanks, and raised prices or a struck bidder cost no less. Assumes nothing.
-use Prim.Native.Nat.{ℕ, _*_, _≤_, _<_}
+-- The award with a discount: the bidder sells no fewer blanks; and a discount taken back is a raise of prices. Assumes nothing.
+use Prim.Native.Nat.{ℕ, _*_, _≤_}
 use native.Mathlib.Nat.{le-of-mul-le-mul-left}
 use native.Mathlib.Omega.{arith}
 use mathlib.Core.List.{List}
-use mathlib.Core.Logic.{_↔_}
 use mathlib.Core.Path.{_≡_, refl, sym, ap, _∙_, subst}
 use lib.IntN.{ℤ, pos, _+ℤ_, +ℤ-comm}
-use lib.ListN.{length, getD, length-map}
+use lib.ListN.{getD}
 use lib.Signed.{_≤ℤ_, ≤ℤ-refl}
 use Rattle.lists.specs.Pairwise.{Pairwise, ChangedAt}
-use Rattle.lists.proofs.Pairwise.{pairwise-from, pairwise-map, pairwise-same, changed-from, changed-map, changed-pairwise, pairwise-back}
-use Rattle.lists.proofs.Removed.{removed, map-removed}
+use Rattle.lists.proofs.Pairwise.{pairwise-from, pairwise-same, changed-from, changed-map, changed-pairwise, pairwise-back}
 use Rattle.money.specs.declared.Cents.{Cents}
 use Rattle.book.specs.declared.Segment.{Segment}
 use Rattle.book.specs.declared.Order.{Order}
@@ -21,16 +19,12 @@ use Rattle.supply.proofs.Compared.{ComparedSupply}
 use Rattle.divisions.specs.Division.{Division}
 use Rattle.divisions.specs.Award.{Priced}
 use Rattle.divisions.specs.IsAward.{IsAward}
-use Rattle.divisions.specs.NoDearer.{NoDearer, BookNoDearer}
 use Rattle.divisions.proofs.AtMost.{most-trans, most-sum, most-cancel, most-pos}
 use Rattle.divisions.proofs.Dominance.{cheapest}
-use Rattle.divisions.proofs.Without.{all-sell-nothing, no-dearer-with}
 use Rattle.pricechanges.specs.Discount.{CheaperSegment, CheaperBid, Discounted}
 use Rattle.pricechanges.specs.Raise.{RaisedSegment, RaisedBid, Raised}
-use Rattle.pricechanges.proofs.Prices.{Above, AtMost, cheaper-supply, raised-supply}
-use Rattle.pricechanges.proofs.Divisions.{SameOffers, same-divisions, costs-no-more, costs-less}
-
--- ---- a discount sells no fewer blanks
+use Rattle.pricechanges.proofs.Prices.{Above, cheaper-supply}
+use Rattle.pricechanges.proofs.Divisions.{SameOffers, same-divisions, costs-less}
 
 -- a is at most b, and less p it is at least b less q: then p is at most q
 more-off : (a b a′ b′ p q : ℤ) → a ≡ a′ +ℤ p → b ≡ b′ +ℤ q → a ≤ℤ b → b′ ≤ℤ a′ → p ≤ℤ q
@@ -67,25 +61,7 @@ module _ (cents i : ℕ) (b b′ : BookEntries) (discounted : Discounted cents i
       sells-no-fewer (b .order) (suppliesOf (b .bids)) (suppliesOf (b′ .bids)) cents i off (discounted .one-cent) award award′ is
       (subst (λ (order : Order). IsAward order (suppliesOf (b′ .bids)) award′) (discounted .changed .order) is′)
 
--- ---- raised prices cost no less
-
-module _ (b b′ : BookEntries) (raised : Raised b b′) where
-  no-more : Pairwise (ComparedSupply AtMost) (suppliesOf (b .bids)) (suppliesOf (b′ .bids))
-  no-more = pairwise-map supplyOf (ComparedSupply AtMost) (b .bids) (b′ .bids) (pairwise-from RaisedBid _ raised-supply (b .bids) (b′ .bids) (raised .bids))
-
-  same-offers : Pairwise SameOffers (suppliesOf (b .bids)) (suppliesOf (b′ .bids))
-  same-offers = pairwise-from (ComparedSupply AtMost) SameOffers (λ ss ss′ c. c .offered) (suppliesOf (b .bids)) (suppliesOf (b′ .bids)) no-more
-
-  -- the divisions are the same
-  pub raise-divisions : (rs : List ℕ) → Division (b .order) (suppliesOf (b .bids)) rs ↔ Division (b′ .order) (suppliesOf (b′ .bids)) rs
-  raise-divisions rs = rw (raised .order) (same-divisions (b .order) (suppliesOf (b .bids)) (suppliesOf (b′ .bids)) same-offers rs)
-
-  pub raise-no-dearer : BookNoDearer b b′
-  raise-no-dearer rs d =
-      let division = raise-divisions rs .1 d in
-      (rs, division, costs-no-more (suppliesOf (b .bids)) (suppliesOf (b′ .bids)) no-more rs (division .allocation))
-
--- a discount taken back is such a raise
+-- ---- a discount taken back is a raise of prices
 
 cheaper-raised : (cents : ℕ) (s s′ : Segment) → CheaperSegment cents s s′ → RaisedSegment s′ s
 cheaper-raised cents s s′ c = record {
@@ -120,10 +96,3 @@ discount-raised cents i b b′ d = record {
       (changed-pairwise (λ x y. RaisedBid y x) raised-same i (b .bids) (b′ .bids)
       (changed-from (CheaperBid cents) (λ x y. RaisedBid y x) (cheaper-bid-raised cents) i (b .bids) (b′ .bids) (d .changed .bids)));
 }
-
--- ---- a struck bidder: the others cost no less without it
-
-pub strike-no-dearer : (order : Order) (bids : List BidEntries) (i : ℕ) → i < length bids → NoDearer order (suppliesOf bids) order (suppliesOf (removed i bids))
-strike-no-dearer order bids i h =
-    let bidder : i < length (suppliesOf bids) = omega (arith, length-map bids supplyOf) in
-    rw (map-removed supplyOf i bids) (no-dearer-with order (suppliesOf bids) (all-sell-nothing bids) i bidder)
