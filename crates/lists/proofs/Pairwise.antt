@@ -1,7 +1,7 @@
 -- Two lists compared: what follows for other relations and for other lists. Assumes nothing.
 use Prim.Native.Nat.{ℕ, zero, suc}
 use mathlib.Core.List.{List, [], _∷_, map}
-use mathlib.Core.Path.{_≡_, ap, subst}
+use mathlib.Core.Path.{ap, subst}
 use Rattle.lists.specs.Pairwise.{Pairwise, ChangedAt}
 
 -- from what else holds of each two

@@ -1,7 +1,6 @@
 -- Bidders who offer the same quantities at other prices: their divisions are the same, and what these cost compares as the prices do. Assumes
 -- nothing.
 use Prim.Native.Nat.{ℕ, zero, suc, _*_}
-use mathlib.Core.Bool.{true}
 use mathlib.Core.List.{List, [], _∷_}
 use mathlib.Core.Logic.{_↔_}
 use mathlib.Core.Path.{_≡_, sym, ap, ap₂, _∙_}

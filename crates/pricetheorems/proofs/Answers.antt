@@ -3,7 +3,7 @@ use Prim.Native.Nat.{ℕ, _≤_, _<_}
 use native.Mathlib.Decide.{decLt}
 use native.Mathlib.Omega.{arith}
 use mathlib.Core.Path.{_≡_, ap, _∙_}
-use lib.ListN.{length, getD, length-map}
+use lib.ListN.{getD, length-map}
 use Rattle.book.specs.Entries.{BookEntries}
 use Rattle.sampling.specs.Entries.{TableEntries}
 use Rattle.supply.specs.Supply.{supplyOf, suppliesOf}
@@ -13,7 +13,6 @@ use Rattle.award.specs.declared.Row.{Row}
 use Rattle.clearing.specs.declared.Clearing.{Clearing}
 use Rattle.clearing.specs.Clearing.{awardRecord, clearSampled}
 use Rattle.awardtheorems.specs.OfBook.{IsAwardOf}
-use Rattle.awardtheorems.specs.Awarded.{rowAt}
 use Rattle.awardtheorems.proofs.Rows.{record-quantity, record-beyond}
 use Rattle.awardtheorems.proofs.Answers.{Cleared, cleared}
 use Rattle.awardtheorems.proofs.Cleared.{award-of-book}

@@ -1,13 +1,7 @@
 -- The laws of change 7, of any two accepted books. Assumes nothing.
 use Prim.Native.Nat.{ℕ}
-use mathlib.Core.Logic.{_↔_}
-use mathlib.Core.Path.{_≡_, sym, subst}
-use lib.IntN.{ℤ}
-use lib.Signed.{_≤ℤ_}
-use Rattle.refusal.specs.declared.Verdict.the-variants.{Accepted}
+use mathlib.Core.Path.{sym, subst}
 use Rattle.book.specs.Entries.{BookEntries}
-use Rattle.book.specs.Rules.{bookVerdict}
-use Rattle.sampling.specs.Entries.{TableEntries}
 use Rattle.supply.specs.Supply.{suppliesOf}
 use Rattle.divisions.specs.NoDearer.{BookNoDearer}
 use Rattle.divisions.proofs.Dominance.{dominance, dominance-none}
@@ -17,9 +11,8 @@ use Rattle.pricechanges.proofs.Discount.{discount-sells, discount-raised}
 use Rattle.pricechanges.proofs.Raise.{raise-divisions, raise-no-dearer}
 use Rattle.pricechanges.proofs.Strike.{strike-no-dearer}
 use Rattle.without.specs.Without.{bookWithout}
-use Rattle.clearing.specs.Clearing.{clearSampled}
 use Rattle.awardtheorems.proofs.Cleared.{not-covered-iff}
-use Rattle.pricetheorems.specs.Told.{Covered, totalIn, NothingLost, NothingSaved, SameCover}
+use Rattle.pricetheorems.specs.Told.{NothingLost, NothingSaved, SameCover}
 use Rattle.pricetheorems.specs.Struck.{Struck}
 use Rattle.pricetheorems.specs.Laws.{OfBooks}
 use Rattle.pricetheorems.proofs.Answers.{award, is-award, total-is, no-fewer}

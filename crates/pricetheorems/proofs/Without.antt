@@ -3,13 +3,13 @@
 use Prim.Native.Nat.{ℕ, _<_}
 use native.Mathlib.Omega.{arith}
 use mathlib.Core.List.{List}
-use mathlib.Core.Path.{_≡_, sym, subst}
+use mathlib.Core.Path.{_≡_, subst}
 use lib.IntN.{ℤ}
 use lib.ListN.{length}
 use lib.Signed.{_≤ℤ_}
 use Rattle.refusal.specs.declared.Verdict.the-variants.{Accepted}
 use Rattle.book.specs.declared.Book.{Book}
-use Rattle.book.specs.Entries.{BookEntries, bookEntries}
+use Rattle.book.specs.Entries.{bookEntries}
 use Rattle.sampling.specs.Entries.{TableEntries}
 use Rattle.supply.specs.Supply.{suppliesOf}
 use Rattle.divisions.proofs.Dominance.{dominance}

@@ -3,8 +3,8 @@
 use Prim.Native.Nat.{ℕ, _*_}
 use native.Mathlib.Omega.{arith}
 use mathlib.Core.Bool.{Bool, true, false, cond, false≢true}
-use mathlib.Core.List.{List, [], _∷_, map}
-use mathlib.Core.Path.{_≡_, refl, sym, subst}
+use mathlib.Core.List.{List, [], _∷_}
+use mathlib.Core.Path.{_≡_, refl, subst}
 use lib.IntN.{ℤ, pos, _+ℤ_}
 use Rattle.lists.specs.Pairwise.{Pairwise}
 use Rattle.lists.proofs.Pairwise.{pairwise-from, pairwise-map}
