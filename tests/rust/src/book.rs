@@ -123,7 +123,8 @@ impl Book {
         Book { demand: first[0], allowance: first[1], bids: lines.map(|line| bid_of(&line)).collect() }
     }
 
-    fn line_refusal(&self) -> Option<Refusal> {
+    /// The refusal of the first line that breaks a rule.
+    pub fn line_refusal(&self) -> Option<Refusal> {
         if !quantity_in_range(self.demand) || !(0..=1_000_000).contains(&self.allowance) {
             return Some(refusal(5, 1));
         }

@@ -2,6 +2,7 @@
 //! the reference on them.
 
 use crate::book::Refusal;
+use crate::clearing::Award;
 
 /// What clearing gives: the blanks bought, the total, the quantities, and the totals without each bidder.
 pub struct Given {
@@ -11,17 +12,25 @@ pub struct Given {
     pub without: &'static [Option<i64>],
 }
 
+impl Given {
+    /// Whether the award is this one.
+    pub fn is(&self, award: &Award) -> bool {
+        let numbers = award.bought == self.bought && award.total == self.total;
+        numbers && award.quantities == self.quantities && award.without == self.without
+    }
+}
+
 pub struct Case {
     pub name: &'static str,
     pub text: &'static str,
     pub given: Result<Given, Refusal>,
 }
 
-const fn award(bought: i64, total: i64, quantities: &'static [i64], without: &'static [Option<i64>]) -> Result<Given, Refusal> {
+pub const fn award(bought: i64, total: i64, quantities: &'static [i64], without: &'static [Option<i64>]) -> Result<Given, Refusal> {
     Ok(Given { bought, total, quantities, without })
 }
 
-const fn refused(number: u64, place: u64) -> Result<Given, Refusal> {
+pub const fn refused(number: u64, place: u64) -> Result<Given, Refusal> {
     Err(Refusal { number, place })
 }
 

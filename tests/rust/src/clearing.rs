@@ -14,7 +14,7 @@ pub struct Award {
 }
 
 /// Above every price; stands where no allocation gives the quantity.
-const NO_WAY: i64 = i64::MAX;
+pub const NO_WAY: i64 = i64::MAX;
 
 /// The least price of each quantity up to the most from no bidder at all.
 fn nobody(most: i64) -> Vec<i64> {
@@ -84,7 +84,7 @@ fn layers(bids: &[Bid], most: i64) -> Vec<Vec<i64>> {
 }
 
 /// The most blanks that have to be looked at: more are not taken, or not offered.
-fn most(book: &Book) -> i64 {
+pub fn most(book: &Book) -> i64 {
     let offered: i64 = book.bids.iter().map(|bid| bid.segments[bid.segments.len() - 1].end).sum();
     offered.min(book.demand + book.allowance)
 }
@@ -124,11 +124,15 @@ fn quantities(bids: &[Bid], bought: i64, layers: &[Vec<i64>]) -> Vec<i64> {
     given
 }
 
-fn total_without(book: &Book, absent: usize) -> Option<i64> {
+/// The least price of each quantity from all bidders but one.
+pub fn least_without(book: &Book, absent: usize) -> Vec<i64> {
     let all = book.bids.iter().enumerate();
     let left: Vec<&Bid> = all.filter(|bid| bid.0 != absent).map(|bid| bid.1).collect();
-    let least = left.iter().rev().fold(nobody(most(book)), |rest, bid| with_bidder(bid, &rest));
-    cheapest(book, &least).map(|(total, _)| total)
+    left.iter().rev().fold(nobody(most(book)), |rest, bid| with_bidder(bid, &rest))
+}
+
+fn total_without(book: &Book, absent: usize) -> Option<i64> {
+    cheapest(book, &least_without(book, absent)).map(|(total, _)| total)
 }
 
 /// The award of an accepted book, nothing where it is not covered.

@@ -4,8 +4,14 @@
 //! made, and of each call the number returned, every number behind a pointer, every lent byte and the bytes around them are compared. In
 //! the last groups the calls are made by a sampling table or what stands for one. Each text is also given once by the printed table, as
 //! the product writes that, and the answer compared with the product's own without a table. Each page is read back by its columns, the
-//! samples by a table are held against its bands, and each sheet against the limit of its length. In the last line, passed and failed count
-//! the compared calls, the pages read back, the samples and the sheets looked at: together they are all of them.
+//! samples by a table are held against its bands, and each sheet against the limit of its length.
+//!
+//! Then the groups of pairs, a book and the same book with a discount, with raised prices or with a bidder struck: the award of each is
+//! asked for, and the two answers are held against the laws of the change. There must be enough pairs of each kind. A discount on one
+//! segment alone promises the bidder nothing: some must lose it blanks, which shows that the law of discounts says something.
+//!
+//! In the last line, passed and failed count the compared calls, the pages read back, the samples and the sheets looked at, and the laws
+//! tried: together they are all of them.
 
 #![deny(warnings)]
 
@@ -17,17 +23,26 @@ mod entries;
 mod expected;
 mod generate;
 mod groups;
+mod kinds;
+mod lawcases;
+mod lawchecks;
+mod lawgroups;
+mod laws;
 mod memory;
 mod page;
+mod pairs;
 mod random;
 mod selftest;
 mod shape;
 mod sheet;
 mod table;
 mod tablegroups;
+mod ties;
 
 use compare::{Comparer, Counts};
 use generate::widest;
+use kinds::KINDS;
+use pairs::Pairs;
 use std::process::ExitCode;
 use table::{Rule, RULES};
 
@@ -37,6 +52,10 @@ const ALLOWED_WANTED: u64 = 50_000;
 const OVER_WANTED: u64 = 10_000;
 const TABLES_WANTED: usize = 40_000;
 const PASSING_WANTED: u64 = 15_000;
+const PAIRS_WANTED: usize = 150_000;
+
+/// The seed of the first group of pairs.
+const PAIRS_SEED: u64 = 1_001;
 
 fn run_groups(comparer: &mut Comparer) {
     for (seed, (name, group)) in groups::GROUPS.into_iter().enumerate() {
@@ -48,6 +67,28 @@ fn run_groups(comparer: &mut Comparer) {
         let different = after.different - before.different;
         println!("{name}: {texts} texts ({accepted} accepted, {cleared} cleared), {calls} calls, {different} different");
     }
+}
+
+/// Runs one group of pairs and says what was tried.
+fn law_group(pairs: &mut Pairs, name: &str, group: impl FnOnce(&mut Pairs)) {
+    let before = pairs.counts;
+    group(pairs);
+    let after = pairs.counts;
+    let (made, compared) = (after.pairs - before.pairs, after.compared - before.compared);
+    let (laws, broken) = (after.laws - before.laws, after.broken - before.broken);
+    println!("{name}: {made} pairs ({compared} compared with the reference too), {laws} laws tried, {broken} broken");
+}
+
+fn run_law_groups(pairs: &mut Pairs) {
+    let mut seeds = (PAIRS_SEED..).map(random::Random::new);
+    let mut random = || seeds.next().expect("seeds without end");
+    law_group(pairs, "changes worked out by hand", |pairs| lawgroups::cases(pairs, &mut random()));
+    for (change, changer) in lawgroups::CHANGERS {
+        for (books, group) in lawgroups::SORTS {
+            law_group(pairs, &format!("{change}, {books}"), |pairs| group(pairs, &mut random(), changer));
+        }
+    }
+    law_group(pairs, "discounts on one segment, hard books", |pairs| lawgroups::one_segment(pairs, &mut random()));
 }
 
 /// Says how often each refusal was given; each must have been.
@@ -108,6 +149,26 @@ fn enough_cleared(comparer: &Comparer) -> bool {
     enough
 }
 
+/// Enough pairs, and of these enough of each kind.
+fn enough_pairs(pairs: &Pairs) -> bool {
+    let counted = || KINDS.iter().zip(&pairs.kinds);
+    for (among, count) in kinds::ALL.into_iter().zip(&pairs.among) {
+        let own = counted().filter(|(kind, _)| kind.among == among);
+        let each: Vec<String> = own.map(|(kind, count)| format!("{count} {}", kind.words)).collect();
+        println!("{count} {}: {}", among.words(), each.join(", "));
+    }
+    let too_few = || counted().filter(|(kind, &count)| count < kind.wanted);
+    for (kind, _) in too_few() {
+        println!("FAILED: {}: fewer than {} {}", kind.among.words(), kind.wanted, kind.words);
+    }
+    let distinct = pairs.distinct_pairs();
+    println!("{distinct} of the pairs differ from each other, {} laws tried, {} broken", pairs.counts.laws, pairs.counts.broken);
+    if distinct < PAIRS_WANTED {
+        println!("FAILED: fewer than {PAIRS_WANTED} pairs");
+    }
+    distinct >= PAIRS_WANTED && too_few().next().is_none()
+}
+
 /// For each number of bids the widest sheet that there is must have been seen, and none that is wider.
 fn every_width(comparer: &Comparer) -> bool {
     let seen = &comparer.widest[1..];
@@ -139,6 +200,10 @@ fn main() -> ExitCode {
     }
     let mut comparer = Comparer::new();
     run_groups(&mut comparer);
+    let mut pairs = Pairs::new(&mut comparer);
+    run_law_groups(&mut pairs);
+    good &= enough_pairs(&pairs);
+    let laws = pairs.counts;
     if !every_refusal(&comparer) {
         println!("FAILED: a refusal was never given");
         good = false;
@@ -153,7 +218,8 @@ fn main() -> ExitCode {
     good &= enough_cleared(&comparer) & every_fault(&comparer) & enough_tables(&comparer);
     good &= every_width(&comparer) & shortest_and_longest(&comparer);
     println!("{} texts, {} calls compared, {} pages read back, {} different", counts.texts, counts.calls, counts.pages, counts.different);
-    let all = counts.calls + counts.pages + counts.samples + counts.sheets;
-    println!("{} passed, {} failed", all - counts.different, counts.different);
-    ExitCode::from(u8::from(!good || counts.different > 0))
+    let all = counts.calls + counts.pages + counts.samples + counts.sheets + laws.laws;
+    let failed = counts.different + laws.broken;
+    println!("{} passed, {failed} failed", all - failed);
+    ExitCode::from(u8::from(!good || failed > 0))
 }

@@ -1,6 +1,6 @@
 //! The check of the reference and of the comparison: the reference against what the paper prints, against cases with carriage, with an
 //! allowance and with tables that were worked out by hand, against sizes that were counted by hand and against a listing of all divisions,
-//! and the comparison against answers that were altered.
+//! and the comparison against answers that were altered. The laws of changed books have theirs in lawchecks.rs.
 
 use crate::book::{refusal, Bid, Book, Refusal, Sizes};
 use crate::cases::{Case, CASES};
@@ -9,11 +9,13 @@ use crate::compare::Comparer;
 use crate::entries::{Answer, Call};
 use crate::expected::Judged;
 use crate::generate::{books, bytes, families, limits, tables, widest};
+use crate::lawchecks;
 use crate::page;
 use crate::random::Random;
 use crate::shape::Shape;
 use crate::sheet;
 use crate::table::{Loaded, Table};
+use crate::ties;
 use std::cmp::Reverse;
 use std::rc::Rc;
 
@@ -79,13 +81,13 @@ const DRUMS_PAGE: &str = concat!(
 
 /// The checks done, and those that failed.
 #[derive(Default)]
-struct Checks {
+pub struct Checks {
     done: u64,
     failed: u64,
 }
 
 impl Checks {
-    fn check(&mut self, name: &str, holds: bool) {
+    pub fn check(&mut self, name: &str, holds: bool) {
         self.done += 1;
         if !holds {
             self.failed += 1;
@@ -307,14 +309,11 @@ fn carriage_refusals(checks: &mut Checks, shape: &Shape) {
     }
 }
 
-fn as_given(shape: &Shape, case: &Case) -> bool {
+pub fn as_given(shape: &Shape, case: &Case) -> bool {
     let judged = judged(shape, case.text);
     match (judged.cleared(), &case.given) {
         (Err(refused), Err(given)) => refused == *given,
-        (Ok((_, award)), Ok(given)) => {
-            let numbers = award.bought == given.bought && award.total == given.total;
-            numbers && award.quantities == given.quantities && award.without == given.without
-        }
+        (Ok((_, award)), Ok(given)) => given.is(award),
         _ => false,
     }
 }
@@ -627,6 +626,8 @@ fn listings(checks: &mut Checks) {
         decided += u64::from(decided_by_carriage(&book));
         checks.check("a small book by listing all divisions", listed_well(&book, &all));
         checks.check("a small book with the allowance 0", as_before(&book));
+        let other = clearing::award(&book).is_some_and(|award| ties::tied(&book, &award));
+        checks.check("another division of the award's cost", other == tied(&all));
     }
     println!("self-test: 8000 small books listed, {ties} of them with several cheapest divisions, {decided} decided by carriage");
     println!("self-test: {over} of them with more than the demand bought, {fewer} decided by fewest blanks");
@@ -734,6 +735,7 @@ pub fn run() -> bool {
     listings(&mut checks);
     alterations(&mut checks);
     limits_of_sheets(&mut checks);
+    lawchecks::run(&mut checks, &shape);
     println!("self-test: {} checks, {} failed", checks.done, checks.failed);
     checks.failed == 0
 }

@@ -60,6 +60,11 @@ fn segments(random: &mut Random, plan: &Plan) -> Vec<Segment> {
     list
 }
 
+/// The most that can be taken off a unit price: neither that nor the price at the start may fall below 0.
+pub fn most_off(segment: &Segment) -> i64 {
+    segment.unit.min((segment.unit * segment.start + segment.fixed) / segment.start)
+}
+
 fn carriage(random: &mut Random, plan: &Plan) -> i64 {
     match random.below(5) {
         0 => 0,

@@ -60,8 +60,7 @@ fn shared_out(random: &mut Random, mut book: Book) -> Book {
 }
 
 fn share_out(random: &mut Random, bid: &mut Bid) {
-    let most = |s: &Segment| s.unit.min((s.unit * s.start + s.fixed) / s.start);
-    let least = bid.segments.iter().map(most).fold(MOST_CARRIAGE, i64::min);
+    let least = bid.segments.iter().map(books::most_off).fold(MOST_CARRIAGE, i64::min);
     bid.carriage = random.between(0, least);
     bid.segments.iter_mut().for_each(|segment| segment.unit -= bid.carriage);
 }

@@ -4,6 +4,7 @@ pub mod books;
 pub mod broken;
 pub mod bytes;
 pub mod calls;
+pub mod changes;
 pub mod families;
 pub mod limits;
 pub mod splits;
