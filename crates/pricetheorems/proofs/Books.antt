@@ -51,7 +51,7 @@ discount-books cents i table b b′ accepted accepted′ d =
     let raised = discount-raised cents i b b′ d in
     let (to, from) = raise-cover-books table b′ b accepted′ accepted raised in
     record {
-      uncovered = (from, to);
+      cover = (from, to);
       blanks = λ c c′.
           no-fewer table b b′ c c′ i
           (discount-sells cents i b b′ d (award table b c) (award table b′ c′) (is-award table b c) (is-award table b′ c′));

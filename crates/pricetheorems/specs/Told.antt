@@ -28,21 +28,22 @@ quantityIn c i = rowAt (c .award) i .quantity .0
 abbrev pub totalIn : Clearing → ℤ
 totalIn c = c .award .total .0
 
+-- one is refused by 9 exactly if the other is
+abbrev pub SameCover : Clearing → Clearing → Type 0
+SameCover c c′ = Uncovered c ↔ Uncovered c′
+
 -- Of a discount of the bidder with index i: one is refused by 9 exactly if the other is, and where they are covered, the bidder is awarded no
 -- fewer blanks and the total is no higher.
 pub record NothingLost (i : ℕ) (c c′ : Clearing) : Type 0 where
-  pub uncovered : Uncovered c ↔ Uncovered c′
+  pub cover : SameCover c c′
   pub blanks : Covered c → Covered c′ → quantityIn c i ≤ quantityIn c′ i
   pub total : Covered c → Covered c′ → totalIn c′ ≤ℤ totalIn c
 
--- Of raised prices and of a struck bidder: what was refused by 9 still is, and where both are covered, the total is no lower.
+-- Of raised prices and of a struck bidder: what was refused by 9 still is, and where both are covered, the total is no lower. (Of raised prices
+-- `SameCover` too.)
 pub record NothingSaved (c c′ : Clearing) : Type 0 where
   pub uncovered : Uncovered c → Uncovered c′
   pub total : Covered c → Covered c′ → totalIn c ≤ℤ totalIn c′
-
--- Of raised prices also: what was covered still is.
-abbrev pub SameCover : Clearing → Clearing → Type 0
-SameCover c c′ = Uncovered c ↔ Uncovered c′
 
 -- Of the award of one book: no total without a bidder is below its total.
 abbrev pub NoLessWithout : BookEntries → Award → Type 0

@@ -52,7 +52,7 @@ module _ (Q : ℕ → ℤ → ℤ → Type 0) where
       go true e here later = here e
       go false e here later = later e
 
-  pub compared-supply : (ss ts : List Segment) → Pairwise Compared ss ts → ComparedSupply ss ts
+  compared-supply : (ss ts : List Segment) → Pairwise Compared ss ts → ComparedSupply ss ts
   compared-supply ss ts c = record { offered = same-offers ss ts c; price = prices ss ts c }
 
   module _ (comparison : Comparison Q) where
