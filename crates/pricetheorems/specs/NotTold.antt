@@ -25,7 +25,7 @@ NoHigherTotal c c′ = Covered c → Covered c′ → totalIn c′ ≤ℤ totalI
 abbrev pub StaysCovered : Clearing → Clearing → Type 0
 StaysCovered c c′ = Covered c → Covered c′
 
--- anything of a discount on one segment alone, that with index j of the bid with index i
+-- of a discount on one segment alone, that with index j of the bid with index i: that its bidder loses no blanks (`NothingLost`)
 pub record DiscountedOnce (cents i j : ℕ) (b b′ : BookEntries) : Type 0 where
   pub one-cent : 1 ≤ cents
   pub changed : BookChanged (ChangedAt i (BidChanged (ChangedAt j (CheaperSegment cents)))) b b′
