@@ -14,10 +14,9 @@ use Rattle.without.specs.Without.{bookWithout}
 use Rattle.clearing.specs.declared.Clearing.{Clearing}
 use Rattle.clearing.specs.Clearing.{clearOf}
 use Rattle.awardtheorems.proofs.Apart.{accepted-refused}
-use Rattle.pricetheorems.specs.Told.{NothingLost}
 use Rattle.pricetheorems.specs.Struck.{Struck}
 use Rattle.pricetheorems.specs.Laws.{OfBooks}
-use Rattle.pricetheorems.specs.NotTold.{MoreBlanks, NobodyLoses, LowerTotal, NoHigherTotal, StaysCovered, DiscountedOnce}
+use Rattle.pricetheorems.specs.NotTold.{MoreBlanks, NobodyLoses, LowerTotal, NoHigherTotal, StaysCovered, DiscountedOnce, NoFewerBlanks}
 use Rattle.pricetheorems.specs.Counterexamples.{lot, bidOf, twoBlanks, asBid, oneCentOff, twoCentsOff, oneSegmentOff, Awards}
 use Rattle.pricetheorems.proofs.Worked.{computed, as-bid, one-cent-off, two-cents-off, one-segment-off, without-first}
 
@@ -74,11 +73,11 @@ off-one =
       changed = record { order = refl; count = refl; bids = (record { bidder = refl; carriage = refl; count = refl; segments = (segment, refl) }, refl) };
     }
 
-pub all-segments-needed : ((cents i j : ℕ) → OfBooks (DiscountedOnce cents i j) (NothingLost i)) → ⊥
+pub all-segments-needed : ((cents i j : ℕ) → OfBooks (DiscountedOnce cents i j) (NoFewerBlanks i)) → ⊥
 all-segments-needed law =
     let after = one-segment-off printedTable in
-    let told = law 2 0 0 printedTable asBid oneSegmentOff (computed .as-bid .accepted) (computed .one-segment-off .accepted) off-one in
-    omega (arith, told .blanks (before .covered) (after .covered), before .first-sells, after .first-sells)
+    let no-fewer = law 2 0 0 printedTable asBid oneSegmentOff (computed .as-bid .accepted) (computed .one-segment-off .accepted) off-one in
+    omega (arith, no-fewer (before .covered) (after .covered), before .first-sells, after .first-sells)
 
 -- ---- bidder 2's two cents taken back: the total rises by one
 

@@ -25,7 +25,10 @@ NoHigherTotal c c′ = Covered c → Covered c′ → totalIn c′ ≤ℤ totalI
 abbrev pub StaysCovered : Clearing → Clearing → Type 0
 StaysCovered c c′ = Covered c → Covered c′
 
--- of a discount on one segment alone, that with index j of the bid with index i: that its bidder loses no blanks (`NothingLost`)
+-- of a discount on one segment alone, that with index j of the bid with index i: that its bidder is awarded no fewer blanks
 pub record DiscountedOnce (cents i j : ℕ) (b b′ : BookEntries) : Type 0 where
   pub one-cent : 1 ≤ cents
   pub changed : BookChanged (ChangedAt i (BidChanged (ChangedAt j (CheaperSegment cents)))) b b′
+
+abbrev pub NoFewerBlanks : ℕ → Clearing → Clearing → Type 0
+NoFewerBlanks i c c′ = Covered c → Covered c′ → quantityIn c i ≤ quantityIn c′ i
