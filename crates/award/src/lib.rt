@@ -1,4 +1,6 @@
 // An award as a record: what each bidder sells, at what price, and what the mint samples.
+#![tactic(auto)]
+
 ghost use Rattle.std.specs.Prelude.{◌≡◌};
 ghost use Rattle.book.specs.Entries.{bid_entries};
 ghost use Rattle.book.specs.Accepted.{AcceptedBid};
@@ -12,7 +14,7 @@ use sampling::Table;
 use supply::Offer;
 
 // A total without a bidder: an amount, or `none` where the bids left have no division.
-#[derive(Drop)]
+#[derive(Clone, Copy)]
 pub enum Total {
     Amount(Cents),
     Nothing,
@@ -20,7 +22,7 @@ pub enum Total {
 
 // What a bidder sells: the number of its segment (0 for nothing), the quantity and its price, how many
 // blanks are sampled, and the total that clearing would give if this bidder alone had not bid.
-#[derive(Drop)]
+#[derive(Clone, Copy)]
 pub struct Row {
     pub bidder: u64,
     pub segment: u64,
@@ -31,7 +33,7 @@ pub struct Row {
 }
 
 // `bought` is what all bidders sell. The first `count` rows are those of the bids, in book order; the others are zeros and `Nothing`.
-#[derive(Drop)]
+#[derive(Clone, Copy)]
 pub struct Award {
     pub demand: Blanks,
     pub bought: Blanks,

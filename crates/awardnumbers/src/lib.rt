@@ -1,4 +1,6 @@
 // The award of a text as numbers: what C gets.
+#![tactic(auto)]
+
 ghost use Rattle.std.specs.Prelude.{◌≡◌, length};
 ghost use Rattle.tender.specs.FromText.{cleared_by_table};
 ghost use Rattle.awardnumbers.specs.Numbers.{numbers_answer, numbers_output, FewRows, award_answer, award_output};
@@ -7,7 +9,7 @@ use clearing::Clearing;
 use refusal::{Rule, Verdict};
 
 // What an award buys, its total and the number of its bids; zeros beside a refusal.
-#[derive(Drop)]
+#[derive(Clone, Copy)]
 pub struct AwardNumbers {
     pub verdict: Verdict,
     pub bought: u64,

@@ -1,1 +1,2 @@
 // What holds of every cleared book: demand 3 (specs/ and proofs/); no code.
+#![tactic(auto)]

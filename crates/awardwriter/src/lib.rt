@@ -1,4 +1,6 @@
 // An award written as text: as a sheet or as a page.
+#![tactic(auto)]
+
 ghost use Rattle.std.specs.Prelude.{◌≡◌, length};
 ghost use Rattle.refusal.specs.declared.Verdict.TheVariants.{Accepted};
 ghost use Rattle.output.specs.Writing.{written_of, output_after};
@@ -12,7 +14,7 @@ use award::Award;
 use output::TextWritten;
 
 // The sheet has a form a line, and the page has columns.
-#[derive(Drop)]
+#[derive(Clone, Copy)]
 pub enum Layout {
     Sheet,
     Page,

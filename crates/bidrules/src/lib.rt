@@ -1,4 +1,6 @@
 // A bid checked on its line: rules 4 to 8 of document 01.
+#![tactic(auto)]
+
 ghost use Rattle.std.specs.Prelude.{◌≡◌};
 ghost use Rattle.book.specs.Entries.{bid_entries};
 ghost use Rattle.book.specs.Rules.{bid_verdict};

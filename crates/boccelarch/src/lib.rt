@@ -1,5 +1,7 @@
 // The entries for C. Each takes the bytes of a bid book, gives the number of the refusal (0 where nothing is refused), and puts its
 // place and the other results behind references. What they answer is worked out in `tender` and `awardnumbers`.
+#![tactic(auto)]
+
 ghost use Rattle.std.specs.Prelude.{◌≡◌, cond, length};
 ghost use Rattle.refusal.specs.Number.{number_of, place_of};
 ghost use Rattle.bookanswers.specs.BookAnswers.{book_written, book_output, sizes_text, split_text};

@@ -1,10 +1,11 @@
 // The bid book as a record. What makes a record a book, rules 3 to 8 of document 01, stands in specs/;
 // `bidrules` and `bookrules` check it.
+#![tactic(auto)]
 
 use money::{Blanks, Cents, CentsPerBlank};
 
 // From start to end, both counted, r blanks cost unit × r + fixed.
-#[derive(Drop)]
+#[derive(Clone, Copy)]
 pub struct Segment {
     pub start: Blanks,
     pub end: Blanks,
@@ -14,7 +15,7 @@ pub struct Segment {
 
 // A bidder's price curve, the first `count` of the segments; the others are ignored. Each blank costs the
 // carriage besides: a supply function has it in the unit prices of its segments.
-#[derive(Drop)]
+#[derive(Clone, Copy)]
 pub struct Bid {
     pub bidder: u64,
     pub carriage: CentsPerBlank,
@@ -23,7 +24,7 @@ pub struct Bid {
 }
 
 // What the mints ask for: so many blanks, and how many more they accept.
-#[derive(Drop)]
+#[derive(Clone, Copy)]
 pub struct Order {
     pub demand: Blanks,
     pub allowance: Blanks,
@@ -31,7 +32,7 @@ pub struct Order {
 
 // A bid book: the order, and the first `count` of the bids; the others are ignored. A count may say that there
 // were more bids or segments than the record holds: such a book is refused.
-#[derive(Drop)]
+#[derive(Clone, Copy)]
 pub struct Book {
     pub order: Order,
     pub count: usize,

@@ -1,5 +1,7 @@
 // What is answered about the book of a text: the book written out again, its sizes, and the price of a proposed split of it.
 // Each is refused first as reading refuses the text. The entries are `tender`'s.
+#![tactic(auto)]
+
 ghost use Rattle.std.specs.Prelude.{◌≡◌, length};
 ghost use Rattle.bookanswers.specs.BookAnswers.{book_written, book_output, sizes_text, split_text};
 

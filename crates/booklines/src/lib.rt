@@ -1,4 +1,6 @@
 // The lines of a bid book, parsed into a record: the demand, and the bids.
+#![tactic(auto)]
+
 ghost use Rattle.std.specs.Prelude.{◌≤◌, length};
 ghost use Rattle.booklines.specs.Parses.{AddingAsks, ParsesDemand, ParsesBidder, ParsesBid, ParsesBids, ParsesLines};
 
@@ -11,7 +13,7 @@ use scanner::Cursor;
 use segments::ParsedBid;
 
 // A record, and where parsing stands after it. Where it has stopped, the record is of no meaning.
-#[derive(Drop)]
+#[derive(Clone, Copy)]
 pub struct ParsedBook {
     pub book: Book,
     pub next: Cursor,

@@ -8,13 +8,13 @@ use book::{Bid, Segment};
 use money::{Blanks, Cents, CentsPerBlank};
 use scanner::Cursor;
 
-#[derive(Drop)]
+#[derive(Clone, Copy)]
 pub struct ParsedSegment {
     pub segment: Segment,
     pub next: Cursor,
 }
 
-#[derive(Drop)]
+#[derive(Clone, Copy)]
 pub struct ParsedBid {
     pub bid: Bid,
     pub next: Cursor,

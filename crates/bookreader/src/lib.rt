@@ -1,4 +1,6 @@
 // Reading a bid book from its text.
+#![tactic(auto)]
+
 ghost use Rattle.std.specs.Prelude.{◌≡◌};
 ghost use Rattle.bookreader.specs.Reading.{read_of, refused_answer};
 
@@ -9,7 +11,7 @@ use book::Book;
 use refusal::{Rule, Verdict};
 
 // The book of a text, or all zeros beside a refusal.
-#[derive(Drop)]
+#[derive(Clone, Copy)]
 pub struct BookRead {
     pub verdict: Verdict,
     pub book: Book,

@@ -1,4 +1,6 @@
 // Records as a reader fills them: all zeros at first, and then one entry after the other.
+#![tactic(auto)]
+
 ghost use Rattle.std.specs.Prelude.{◌≡◌, ◌<◌};
 ghost use Rattle.booktext.specs.Record.{empty_segment, empty_bid, empty_book};
 ghost use Rattle.bookrecord.specs.Adding.{with_segment, with_bid};

@@ -1,4 +1,6 @@
 // A bid book checked by rules 3 to 8 of document 01.
+#![tactic(auto)]
+
 ghost use Rattle.std.specs.Prelude.{◌≡◌};
 ghost use Rattle.book.specs.Entries.{book_entries};
 ghost use Rattle.book.specs.Rules.{order_in_range, book_verdict};

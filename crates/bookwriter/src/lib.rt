@@ -1,4 +1,6 @@
 // Writing a bid book as text.
+#![tactic(auto)]
+
 ghost use Rattle.std.specs.Prelude.{◌≡◌, length};
 ghost use Rattle.refusal.specs.declared.Verdict.TheVariants.{Accepted};
 ghost use Rattle.book.specs.Entries.{book_entries};

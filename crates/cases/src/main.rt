@@ -1,5 +1,6 @@
 // Runs the cases of document 01, section "Cases", and others at the edges of the rules, and prints what it gets. The cases stand in
 // stdin, which begins with how they are written, and what is to be printed in stdout.
+#![tactic(auto)]
 
 // Standard input cut into cases; answers about texts, records and sampling tables, and how they are printed.
 mod pieces;

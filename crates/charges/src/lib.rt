@@ -1,5 +1,7 @@
 // What segments are charged by a price of a blank, and sums of it: by these the search bounds what a division costs. A charge is no
 // price that anyone pays; it is a plain number, so that it cannot be taken for one.
+#![tactic(auto)]
+
 ghost use Rattle.std.specs.Prelude.{◌≡◌, ◌*◌, min};
 ghost use Rattle.charges.specs.Charge.{charge_at, charge};
 ghost use Rattle.charges.specs.Records.{Payable, ChargeableAt, Chargeable, ChargeableBy, Addable, charges_in, sums_on, sums_with};
@@ -8,21 +10,21 @@ use book::{Order, Segment};
 use money::{Blanks, Cents, CentsPerBlank};
 
 // Two prices of a blank. Any will do: they only make the search faster.
-#[derive(Drop)]
+#[derive(Clone, Copy)]
 pub struct Prices {
     pub first: CentsPerBlank,
     pub second: CentsPerBlank,
 }
 
 // What the segments of some bidders are charged in all, by the first price and by the second.
-#[derive(Drop)]
+#[derive(Clone, Copy)]
 pub struct Charges {
     pub first: u64,
     pub second: u64,
 }
 
 // Over some bidders: the sums of the starts and of the ends of their segments, and of what these are charged by the two prices.
-#[derive(Drop)]
+#[derive(Clone, Copy)]
 pub struct Sums {
     pub low: Blanks,
     pub high: Blanks,

@@ -1,5 +1,7 @@
 // A choice of a segment for each bidder, as a record. The sums of the starts and of the ends are carried along as a segment is chosen or
 // dropped, and nothing adds them up afresh.
+#![tactic(auto)]
+
 ghost use Rattle.std.specs.Prelude.{◌≡◌, ◌∷◌, ◌+◌, ◌≤◌};
 ghost use Rattle.choicerecord.specs.Records.{chosen, Sound, SellsNothing, Choosable, Exchangeable, Exchanged};
 
@@ -8,7 +10,7 @@ use money::{Blanks, Cents, CentsPerBlank};
 
 // A segment chosen for each of the first `count` bidders, in book order, and the sums of their starts and of their ends; the other
 // segments are ignored.
-#[derive(Drop)]
+#[derive(Clone, Copy)]
 pub struct Choice {
     pub count: usize,
     pub segments: [Segment; 8],

@@ -9,7 +9,7 @@ use money::Cents;
 use refusal::Verdict;
 
 // A row as it should be: amounts in cents, and `NONE` for `Nothing`.
-#[derive(Drop)]
+#[derive(Clone, Copy)]
 struct Expected {
     bidder: u64,
     segment: u64,

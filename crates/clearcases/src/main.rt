@@ -1,5 +1,6 @@
 // Clears small books a second way, by listing all splits, and prints how often the two ways agree, in every column of every row. What
 // it must print stands in stdout.
+#![tactic(auto)]
 
 // Small books and their records; all splits of a book; the comparison.
 mod agree;
@@ -9,7 +10,7 @@ mod splits;
 use small_books::SmallBook;
 
 // `small_books` should make no book that is refused by a rule before 9.
-#[derive(Drop)]
+#[derive(Clone, Copy)]
 struct Counts {
     refused: u64,
     covered: u64,

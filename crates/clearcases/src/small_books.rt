@@ -7,7 +7,7 @@ use book::{Bid, Book, Order, Segment};
 use money::{Blanks, Cents, CentsPerBlank};
 
 // The fixed price is `more - off`.
-#[derive(Drop)]
+#[derive(Clone, Copy)]
 pub struct SmallSegment {
     pub start: u64,
     pub end: u64,
@@ -17,7 +17,7 @@ pub struct SmallSegment {
 }
 
 // The first `count` of three segments.
-#[derive(Drop)]
+#[derive(Clone, Copy)]
 pub struct SmallBid {
     pub bidder: u64,
     pub carriage: u64,
@@ -28,7 +28,7 @@ pub struct SmallBid {
 }
 
 // The first `count` of three bids.
-#[derive(Drop)]
+#[derive(Clone, Copy)]
 pub struct SmallBook {
     pub demand: u64,
     pub allowance: u64,

@@ -10,7 +10,7 @@ use crate::small_books::{SmallBid, SmallBook, SmallSegment};
 pub const NONE: u64 = 1_000_000_000_000;
 
 // The cheapest split and its price, `NONE` where the order takes no split, and whether another one costs the same.
-#[derive(Drop)]
+#[derive(Clone, Copy)]
 pub struct Cheapest {
     pub total: u64,
     pub split: u64,
@@ -18,7 +18,7 @@ pub struct Cheapest {
 }
 
 // The number of the segment on which a quantity lies, 0 for none, and its price.
-#[derive(Drop)]
+#[derive(Clone, Copy)]
 pub struct Offer {
     pub segment: u64,
     pub price: u64,

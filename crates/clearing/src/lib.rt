@@ -1,4 +1,6 @@
 // Clearing a tender: the award of a bid book.
+#![tactic(auto)]
+
 ghost use Rattle.std.specs.Prelude.{◌≡◌, take};
 ghost use Rattle.lists.specs.Padded.{padded};
 ghost use Rattle.book.specs.Entries.{book_entries};
@@ -14,7 +16,7 @@ use refusal::{Rule, Verdict};
 use sampling::Table;
 
 // The award of a book, or zeros and `Nothing` beside a refusal.
-#[derive(Drop)]
+#[derive(Clone, Copy)]
 pub struct Clearing {
     pub verdict: Verdict,
     pub award: Award,

@@ -1,4 +1,6 @@
 // What stands in columns, set to the right, put into a lent output. A place is bounded so that no sum wraps.
+#![tactic(auto)]
+
 ghost use Rattle.std.specs.Prelude.{◌+◌, ◌^◌, ◌≤◌, ◌<◌};
 ghost use Rattle.forms.specs.Column.{right};
 ghost use Rattle.printer.specs.Written.{Put};
@@ -11,7 +13,7 @@ use spaces::{put_spaces, spaces_before};
 use words::Word;
 
 // What stands in a column: a word, a number, or money with a point and two decimals.
-#[derive(Drop)]
+#[derive(Clone, Copy)]
 pub enum Shown {
     InWord(Word),
     InDigits(u64),

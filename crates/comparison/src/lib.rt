@@ -1,5 +1,7 @@
 // Divisions as records, and compared as the award is fixed: by cost, among equal costs by blanks, and among as many by who gets
 // more first.
+#![tactic(auto)]
+
 ghost use Rattle.std.specs.Prelude.{◌≡◌, ◌≤◌, take};
 ghost use Rattle.divisions.specs.Award.{gives_more, wins_tie, better, pick};
 ghost use Rattle.comparison.specs.Records.{blanks_in, division_in, found, Comparable};
@@ -7,7 +9,7 @@ ghost use Rattle.comparison.specs.Records.{blanks_in, division_in, found, Compar
 use money::{Blanks, Cents};
 
 // A division, if one was found: its cost, how many blanks it buys, and a quantity for each bidder in book order.
-#[derive(Drop)]
+#[derive(Clone, Copy)]
 pub struct MaybeDivision {
     pub found: bool,
     pub cost: Cents,

@@ -2,6 +2,8 @@
 // complete a choice, each with the range of their blanks and the least of their charges by each price. A table of all classes is lent to
 // the search. It is of plain numbers, since an array of records cannot be lent: four for a class, the classes for the bidders from `at` on
 // beginning with the class 32 × at.
+#![tactic(auto)]
+
 ghost use Rattle.std.specs.Prelude.{◌≡◌, ◌+◌, ◌*◌, ◌≤◌, ◌<◌, max, length};
 ghost use Rattle.book.specs.Entries.{bid_entries};
 ghost use Rattle.supply.specs.Supply.{supply_of};

@@ -1,6 +1,8 @@
 // What the programs do: the sampling table is read from the file `sampling` of the working directory, where there is one, and a bid book from
 // standard input; its award in a layout, or the one line of the refusal, goes to standard output. What fails, and a table that is refused, is
 // told on standard error, under the program's name.
+#![tactic(auto)]
+
 ghost use Rattle.std.specs.Prelude.{◌≡◌, ◌≤◌, length};
 
 mod told;

@@ -1,4 +1,6 @@
 // A discount: so many cents off the unit price of all segments of a bid, and the largest that leaves an accepted book.
+#![tactic(auto)]
+
 ghost use Rattle.std.specs.Prelude.{◌≡◌, ◌≤◌, min};
 ghost use Rattle.book.specs.Entries.{bid_entries};
 ghost use Rattle.book.specs.Accepted.{AcceptedBid};

@@ -1,1 +1,2 @@
 // The divisions of an order among bidders, and the award, the best of them (specs/ and proofs/); no code.
+#![tactic(auto)]

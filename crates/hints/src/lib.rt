@@ -1,5 +1,7 @@
 // Hints for the search: prices of a blank to bound it with, and segments to begin with. Any would do, so nothing is proved of them but
 // that the prices are in range; good ones make it fast.
+#![tactic(auto)]
+
 ghost use Rattle.std.specs.Prelude.{◌≡◌, ◌≤◌, max};
 ghost use Rattle.book.specs.Entries.{bid_entries};
 ghost use Rattle.book.specs.Accepted.{AcceptedBid};

@@ -1,5 +1,7 @@
 // The test whether a part of the search has nothing better than the best so far: a choice, with all ways to complete it. It is asked before
 // the search goes on with a segment.
+#![tactic(auto)]
+
 ghost use Rattle.std.specs.Prelude.{◌≡◌, true, false, ◌⊎◌, ◌≤◌, ◌<◌};
 ghost use Rattle.supply.specs.Meets.{most_of};
 ghost use Rattle.hopeless.specs.Hopeless.{Above, least_bought, Closed, Comparable, Closable, Testable, NothingBetter};

@@ -1,18 +1,20 @@
 // What the programs read, into a lent buffer: standard input, or a file of the working directory.
+#![tactic(auto)]
+
 ghost use Rattle.std.specs.Prelude.{◌≤◌, length};
 ghost use Rattle.input.specs.Input.{bytes_read, bytes_held};
 
 use libc::ENOENT;
 
 // How many bytes were read, or that a read failed.
-#[derive(Drop)]
+#[derive(Clone, Copy)]
 pub enum Input {
     Bytes(usize),
     Failed,
 }
 
 // How many bytes of a file were read, that there is no such file, or that it could not be opened or read.
-#[derive(Drop)]
+#[derive(Clone, Copy)]
 pub enum File {
     Held(usize),
     Missing,

@@ -1,5 +1,7 @@
 // A line of text as data: an array of parts, put into a lent output by one function. A writer of texts says which parts a line has; it is
 // measured by putting it into an output that is too short. A place is bounded so that no sum wraps.
+#![tactic(auto)]
+
 ghost use Rattle.std.specs.Prelude.{◌+◌, ◌^◌, ◌≤◌, ◌<◌};
 ghost use Rattle.lists.specs.Joined.{joined};
 ghost use Rattle.printer.specs.Written.{Put};
@@ -10,7 +12,7 @@ use money::Cents;
 use words::Word;
 
 // A part of a line: a word, or a word and right after it a number or a price; or what is set to the right in so many columns.
-#[derive(Drop)]
+#[derive(Clone, Copy)]
 pub enum Part {
     Nothing,
     Fixed(Word),

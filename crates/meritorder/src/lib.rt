@@ -1,4 +1,6 @@
 // A choice of a segment for each bidder: whether it fits the order, and the cheapest quantities within it.
+#![tactic(auto)]
+
 ghost use Rattle.std.specs.Prelude.{◌≡◌, true, ◌+◌, ◌-◌, leb};
 ghost use Rattle.choices.specs.Choice.{fits, cheaper, extra, filled};
 ghost use Rattle.choicerecord.specs.Records.{segment_at, first_segments, chosen, Sound};

@@ -1,5 +1,7 @@
 // Numbers with one space between two of them, and a line that has them between two words. A line with a number more is parsed by the
 // same call with a larger count.
+#![tactic(auto)]
+
 ghost use Rattle.std.specs.Prelude.{◌≤◌, length};
 ghost use Rattle.forms.specs.Spaced as Spaced;
 ghost use Rattle.scanner.specs.Scans.{Scans};
@@ -8,7 +10,7 @@ ghost use Rattle.numberline.specs.ScansLine.{LineAsks, ScansLine, values_of};
 use scanner::Cursor;
 
 // Up to four numbers, and zeros after them.
-#[derive(Drop)]
+#[derive(Clone, Copy)]
 pub struct ParsedNumbers {
     pub first: u64,
     pub second: u64,

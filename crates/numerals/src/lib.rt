@@ -1,5 +1,7 @@
 // The numbers of a text, parsed where they stand. Each function takes the cursor that the one before it gave, and does nothing once
 // parsing has stopped.
+#![tactic(auto)]
+
 ghost use Rattle.std.specs.Prelude.{◌≡◌, true, false, ◌≤◌, ◌<◌, length};
 ghost use Rattle.forms.specs.Number as Number;
 ghost use Rattle.forms.specs.Signed as Signed;
@@ -13,13 +15,13 @@ mod signs;
 use scanner::Cursor;
 
 // A number, and where parsing stands after it. Where it has stopped, the number is of no meaning.
-#[derive(Drop)]
+#[derive(Clone, Copy)]
 pub struct ParsedNumber {
     pub value: u64,
     pub next: Cursor,
 }
 
-#[derive(Drop)]
+#[derive(Clone, Copy)]
 pub struct ParsedInteger {
     pub value: i64,
     pub next: Cursor,

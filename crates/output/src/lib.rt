@@ -1,4 +1,6 @@
 // A text written into a lent output: what the writers of texts answer.
+#![tactic(auto)]
+
 ghost use Rattle.std.specs.Prelude.{◌≡◌};
 ghost use Rattle.refusal.specs.declared.Rule.TheVariants.{OutputLength};
 ghost use Rattle.refusal.specs.declared.Verdict.TheVariants.{Refused};
@@ -7,7 +9,7 @@ ghost use Rattle.output.specs.Writing.{not_written, all_written};
 use refusal::{Rule, Verdict};
 
 // How many bytes were written, or 0 beside a refusal.
-#[derive(Drop)]
+#[derive(Clone, Copy)]
 pub struct TextWritten {
     pub verdict: Verdict,
     pub bytes: u64,

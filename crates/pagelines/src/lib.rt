@@ -1,4 +1,6 @@
 // The lines of a page as data: which columns each has.
+#![tactic(auto)]
+
 ghost use Rattle.std.specs.Prelude.{◌≡◌};
 ghost use Rattle.lists.specs.Joined.{joined};
 ghost use Rattle.columns.specs.Shown.{shown_text};

@@ -1,1 +1,2 @@
 // What holds of the page of every cleared book (proofs/); no code.
+#![tactic(auto)]

@@ -1,1 +1,2 @@
 // What bidders and buyers are told of a discount, of raised prices and of a struck bidder, and what they are not (specs/ and proofs/); no code.
+#![tactic(auto)]

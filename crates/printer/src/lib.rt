@@ -1,6 +1,8 @@
 // Words, numbers and prices put into a lent output. Each function answers the place after what it puts; where that lies past the output's
 // end, nothing is stored of it. So a text is measured by putting it into an output that is too short, and no second code counts bytes. A
 // place is bounded so that no sum wraps.
+#![tactic(auto)]
+
 ghost use Rattle.std.specs.Prelude.{◌≡◌, ◌+◌, ◌^◌, ◌≤◌, ◌<◌, length};
 ghost use Rattle.forms.specs.Digits.{digits};
 ghost use Rattle.printer.specs.Written.{Wrote, placed, Put, Placeable};

@@ -1,5 +1,7 @@
 // What the programs print for a text. It is no entry: it answers how many bytes are to be printed and no verdict, so what has to know
 // whether a text is refused calls `tender::sheet` or `tender::page`.
+#![tactic(auto)]
+
 ghost use Rattle.std.specs.Prelude.{◌≡◌, ◌≤◌, length, take};
 ghost use Rattle.refusal.specs.declared.Verdict.TheVariants.{Accepted};
 ghost use Rattle.output.specs.Writing.{written_of, output_after};

@@ -1,9 +1,11 @@
 // What turns a text, a record, a split or an output down, and what is said of it.
+#![tactic(auto)]
+
 ghost use Rattle.std.specs.Prelude.{◌≡◌};
 ghost use Rattle.refusal.specs.Number.{number_of, place_of};
 
 // A rule of document 01, section "What is turned down", or of document 02, in the order of its numbers from 1.
-#[derive(Drop)]
+#[derive(Clone, Copy)]
 pub enum Rule {
     TextLength,
     Shape,
@@ -21,7 +23,7 @@ pub enum Rule {
 }
 
 // Accepted, or refused by a rule at a place (a line, a place in the text or a length).
-#[derive(Drop)]
+#[derive(Clone, Copy)]
 pub enum Verdict {
     Accepted,
     Refused(Rule, u64),

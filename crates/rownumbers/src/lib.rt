@@ -1,4 +1,6 @@
 // The rows of an award as numbers, put into a lent list: seven for each.
+#![tactic(auto)]
+
 ghost use Rattle.std.specs.Prelude.{◌≡◌, ◌+◌, ◌≤◌, length};
 ghost use Rattle.printer.specs.Written.{written};
 ghost use Rattle.rownumbers.specs.RowNumbers.{covered, amount, row_numbers, award_numbers, RowsFit};

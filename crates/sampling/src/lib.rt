@@ -1,5 +1,7 @@
 // How many blanks of an awarded quantity are sampled: the sampling table as a record, and the sample of a quantity. What makes a record a
 // table, rule 12 of document 02, stands in specs/; `tablerules` checks it.
+#![tactic(auto)]
+
 ghost use Rattle.std.specs.Prelude.{◌≡◌, min};
 ghost use Rattle.sampling.specs.Entries.{table_entries};
 ghost use Rattle.sampling.specs.Sampling.{printed_table, sample_of};
@@ -9,7 +11,7 @@ mod printed_bands;
 use money::Blanks;
 
 // A band of quantities, from one above the band before it (the first from 1) to its highest.
-#[derive(Drop)]
+#[derive(Clone, Copy)]
 pub struct Band {
     pub highest: u64,
     pub sample: u64,
@@ -17,7 +19,7 @@ pub struct Band {
 
 // A sampling table: the first `count` of the bands; the others are ignored. A count may say that there were more bands than the record
 // holds: such a table is refused.
-#[derive(Drop)]
+#[derive(Clone, Copy)]
 pub struct Table {
     pub count: usize,
     pub bands: [Band; 16],

@@ -1,12 +1,14 @@
 // The words of a text, parsed where they stand: nothing of the text is copied. Each function takes the cursor that the one
 // before it gave, and does nothing once parsing has stopped.
+#![tactic(auto)]
+
 ghost use Rattle.std.specs.Prelude.{◌≡◌, true, false, not, ◌&&◌, ◌≤◌, length, drop};
 ghost use Rattle.forms.specs.Tests.{starts_with};
 ghost use Rattle.forms.specs.Word as Word;
 ghost use Rattle.scanner.specs.Scans.{Scans};
 
 // Where parsing stands: at the place of the next byte, or stopped there.
-#[derive(Drop)]
+#[derive(Clone, Copy)]
 pub struct Cursor {
     pub at: usize,
     pub stopped: bool,

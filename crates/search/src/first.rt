@@ -14,7 +14,7 @@ use choicerecord::Choice;
 use comparison::MaybeDivision;
 
 // Prices of a blank to bound the search with, and a division to improve on, if one was found.
-#[derive(Drop)]
+#[derive(Clone, Copy)]
 pub struct Beginning {
     pub prices: Prices,
     pub best: MaybeDivision,

@@ -1,5 +1,7 @@
 // The search for the best division of a book: through every choice of a segment for each bidder, but for
 // the parts in which nothing better can be found.
+#![tactic(auto)]
+
 ghost use Rattle.std.specs.Prelude.{◌≡◌, true, false, drop};
 ghost use Rattle.book.specs.Entries.{book_entries};
 ghost use Rattle.supply.specs.Supply.{supplies_of};

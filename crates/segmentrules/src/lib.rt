@@ -1,4 +1,6 @@
 // The rules for the segments of a bid: 5, 7 and 8 of document 01.
+#![tactic(auto)]
+
 ghost use Rattle.std.specs.Prelude.{◌≡◌};
 ghost use Rattle.book.specs.Rules.{within};
 
@@ -9,7 +11,7 @@ pub use order::segments_rise;
 pub use segments::all_pass;
 
 // What a rule tests of a segment.
-#[derive(Drop)]
+#[derive(Clone, Copy)]
 pub enum Test {
     InRange,
     StartNotNegative,

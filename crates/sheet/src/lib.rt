@@ -1,4 +1,6 @@
 // An award written as a sheet, and a refusal as its line.
+#![tactic(auto)]
+
 ghost use Rattle.std.specs.Prelude.{◌≡◌, length};
 ghost use Rattle.refusal.specs.declared.Verdict.TheVariants.{Accepted};
 ghost use Rattle.sheettext.specs.Sheet.{sheet_text};

@@ -1,4 +1,6 @@
 // The lines of an award sheet, and the line of a refusal, as data: which parts each has.
+#![tactic(auto)]
+
 ghost use Rattle.std.specs.Prelude.{◌≡◌, ◌++◌};
 ghost use Rattle.lists.specs.Joined.{joined};
 ghost use Rattle.forms.specs.Bytes.{ascii};

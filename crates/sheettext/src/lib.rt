@@ -1,1 +1,2 @@
 // The bytes of the award sheet. This crate has no code.
+#![tactic(auto)]

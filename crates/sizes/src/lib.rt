@@ -1,4 +1,6 @@
 // What is known of a book before it is cleared (document 02, change 6).
+#![tactic(auto)]
+
 ghost use Rattle.std.specs.Prelude.{◌≡◌, ◌≤◌};
 ghost use Rattle.refusal.specs.declared.Verdict.TheVariants.{Accepted};
 ghost use Rattle.book.specs.Entries.{book_entries};
@@ -10,7 +12,7 @@ use refusal::Verdict;
 
 // How many bytes the book's text has, how many choices of a segment for each bidder there are, and how many bytes its sheet
 // has at most; zeros beside a refusal.
-#[derive(Drop)]
+#[derive(Clone, Copy)]
 pub struct BookSizes {
     pub verdict: Verdict,
     pub bytes: u64,

@@ -1,4 +1,6 @@
 // The price of a proposed split: one quantity for each bid, in book order.
+#![tactic(auto)]
+
 ghost use Rattle.std.specs.Prelude.{◌≡◌, ◌+◌, ◌≤◌};
 ghost use Rattle.book.specs.Entries.{book_entries};
 ghost use Rattle.book.specs.Rules.{book_verdict};
@@ -13,7 +15,7 @@ use supply::Offer;
 
 // The price of a split, and whether its quantities add up to what the order takes; 0 and no beside a
 // refusal.
-#[derive(Drop)]
+#[derive(Clone, Copy)]
 pub struct SplitPrice {
     pub verdict: Verdict,
     pub price: Cents,

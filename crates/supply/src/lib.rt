@@ -1,5 +1,7 @@
 // A bid's supply function: which quantities it offers, and at what price, carriage with it; and how many blanks an order takes
 // (order.rt).
+#![tactic(auto)]
+
 ghost use Rattle.std.specs.Prelude.{◌≡◌, ◌+◌, ◌^◌, ◌<◌, length, get_or};
 ghost use Rattle.book.specs.Entries.{bid_entries};
 ghost use Rattle.book.specs.Accepted.{AcceptedBid};
@@ -14,14 +16,14 @@ use money::{Blanks, Cents, CentsPerBlank};
 pub use order::{capped, meets, passes, reaches};
 
 // The price at which a bid offers a quantity, or that it does not offer it.
-#[derive(Drop)]
+#[derive(Clone, Copy)]
 pub enum Offer {
     Price(Cents),
     NotOffered,
 }
 
 // Where a quantity is in a supply function: on the segment with this number, or on none.
-#[derive(Drop)]
+#[derive(Clone, Copy)]
 enum Place {
     On(usize),
     Nowhere,

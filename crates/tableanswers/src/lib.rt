@@ -1,4 +1,6 @@
 // What is answered about the text of a sampling table, and the printed table as text.
+#![tactic(auto)]
+
 ghost use Rattle.std.specs.Prelude.{◌≡◌, length};
 ghost use Rattle.tableanswers.specs.TableAnswers.{table_written, table_output, printed_written, printed_output};
 

@@ -1,4 +1,6 @@
 // The lines of a sampling table, parsed into a record.
+#![tactic(auto)]
+
 ghost use Rattle.std.specs.Prelude.{◌≤◌, length};
 ghost use Rattle.scanner.specs.Scans.{Scans};
 ghost use Rattle.tabletext.specs.TableForm as Form;
@@ -11,13 +13,13 @@ use sampling::{Band, Table};
 use scanner::Cursor;
 
 // A record, and where parsing stands after it. Where it has stopped, the record is of no meaning.
-#[derive(Drop)]
+#[derive(Clone, Copy)]
 pub struct ParsedTable {
     pub table: Table,
     pub next: Cursor,
 }
 
-#[derive(Drop)]
+#[derive(Clone, Copy)]
 struct ParsedBand {
     band: Band,
     next: Cursor,

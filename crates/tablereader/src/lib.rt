@@ -1,4 +1,6 @@
 // Reading a sampling table from its text.
+#![tactic(auto)]
+
 ghost use Rattle.std.specs.Prelude.{◌≡◌};
 ghost use Rattle.tablereader.specs.Reading.{refused_table, read_table_of};
 
@@ -7,7 +9,7 @@ use sampling::Table;
 use scanner::Cursor;
 
 // The table of a text, or all zeros beside a refusal.
-#[derive(Drop)]
+#[derive(Clone, Copy)]
 pub struct TableRead {
     pub verdict: Verdict,
     pub table: Table,

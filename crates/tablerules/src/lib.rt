@@ -1,4 +1,6 @@
 // A sampling table checked by rule 12 of document 02, change 3.
+#![tactic(auto)]
+
 ghost use Rattle.std.specs.Prelude.{◌≡◌};
 ghost use Rattle.sampling.specs.Entries.{table_entries};
 ghost use Rattle.sampling.specs.Rules.{table_verdict};

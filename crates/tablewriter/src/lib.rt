@@ -1,4 +1,6 @@
 // Writing a sampling table as text.
+#![tactic(auto)]
+
 ghost use Rattle.std.specs.Prelude.{◌≡◌, length};
 ghost use Rattle.tablewriter.specs.Writing.{write_table_of, table_output_of};
 

@@ -1,4 +1,6 @@
 // How much too dear a bidder was: the smallest number of cents off its unit prices that leaves an accepted book and wins it a blank.
+#![tactic(auto)]
+
 ghost use Rattle.std.specs.Prelude.{◌≡◌};
 ghost use Rattle.refusal.specs.declared.Verdict.TheVariants.{Accepted};
 ghost use Rattle.book.specs.Entries.{book_entries};
@@ -13,21 +15,21 @@ use money::CentsPerBlank;
 use refusal::{Rule, Verdict};
 
 // So many cents off each unit price, or `none` where no discount wins a blank.
-#[derive(Drop)]
+#[derive(Clone, Copy)]
 pub enum Discount {
     Amount(CentsPerBlank),
     Nothing,
 }
 
 // The smallest discount that wins; `Nothing` also beside a refusal.
-#[derive(Drop)]
+#[derive(Clone, Copy)]
 pub struct TooDear {
     pub verdict: Verdict,
     pub discount: Discount,
 }
 
 // The index of a bidder's bid, or that the book has none.
-#[derive(Drop)]
+#[derive(Clone, Copy)]
 enum Place {
     At(usize),
     Nowhere,

@@ -1,4 +1,6 @@
 // What a bidder changes by its bid: the book less that bid, and the total that clearing would give for it.
+#![tactic(auto)]
+
 ghost use Rattle.std.specs.Prelude.{◌≡◌};
 ghost use Rattle.book.specs.Entries.{book_entries};
 ghost use Rattle.without.specs.Without.{book_without, total_without, OneOf, BidOf, BesideAward};

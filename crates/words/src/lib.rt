@@ -1,9 +1,11 @@
 // The fixed byte strings of the texts that are written, put into a lent output.
+#![tactic(auto)]
+
 ghost use Rattle.std.specs.Prelude.{◌≡◌, ◌+◌, ◌^◌, ◌≤◌, ◌<◌, length};
 ghost use Rattle.printer.specs.Written.{placed};
 ghost use Rattle.words.specs.WordText.{word_text};
 
-#[derive(Drop)]
+#[derive(Clone, Copy)]
 pub enum Word {
     Award,
     Buy,
