@@ -113,8 +113,8 @@ module _ (b : BidEntries) (accepted : AcceptedBid b) where
   unfolding supply_of
   sound_supply = record {
     each = (nothing_sound, segments_sound 0 own rises ranges not_negative);
-    one_price = λ s r m o. price_there segment0 own s r rises m o;
-    one_inside = λ s r m o. inside_there segment0 own s r rises m o;
+    one_price = λ s r m o. price_there s r segment0 own rises m o;
+    one_inside = λ s r m o. inside_there s r segment0 own rises m o;
   }
 
   pub sound_segment_at : (j : ℕ) → j < length (supply_of b) → SoundSegment (get_or (supply_of b) j segment0)

@@ -46,13 +46,13 @@ beyond before (t ∷ ts) s r e (there m) o =
 
 -- Of a segment and those that rise above its end: a quantity on one of them is on no other, and has the price there.
 
-pub price_there : (t : Segment) (ts : List Segment) (s : Segment) (r : ℕ) → segments_rise t.end.0 ts ≡ true → In s (t ∷ ts) → on s r ≡ true
+pub price_there : (s : Segment) (r : ℕ) (t : Segment) (ts : List Segment) → segments_rise t.end.0 ts ≡ true → In s (t ∷ ts) → on s r ≡ true
     → price_at (t ∷ ts) r ≡ price_on s r
 unfolding price_at
-price_there t ts s r e (here p) o = let o' : on t r ≡ true = rw p at o in rw (o', p)
-price_there t [] s r e (there m) o = absurd (Memᴰ.not-nil m)
-price_there t (u ∷ us) s r e (there m) o =
-    rw (off_above t r (beyond t.end.0 (u ∷ us) s r e m o)) (price_there u us s r (step t.end.0 u us e).rest m o)
+price_there s r t ts e (here p) o = let o' : on t r ≡ true = rw p at o in rw (o', p)
+price_there s r t [] e (there m) o = absurd (Memᴰ.not-nil m)
+price_there s r t (u ∷ us) e (there m) o =
+    rw (off_above t r (beyond t.end.0 (u ∷ us) s r e m o)) (price_there s r u us (step t.end.0 u us e).rest m o)
 
 pub one_there : (s : Segment) (ss : List Segment) (j k r : ℕ) → segments_rise s.end.0 ss ≡ true → j < length (s ∷ ss) → k < length (s ∷ ss)
     → on (segment_at (s ∷ ss) j) r ≡ true → on (segment_at (s ∷ ss) k) r ≡ true → j ≡ k
@@ -82,12 +82,12 @@ none_later before (t ∷ ts) r e h =
     let l : r ≤ t.start.0 = omega (arith, i.above) in
     rw (out_below t r l) (none_later t.end.0 ts r i.rest (omega (arith, i.order)))
 
-pub inside_there : (t : Segment) (ts : List Segment) (s : Segment) (r : ℕ) → segments_rise t.end.0 ts ≡ true → In s (t ∷ ts) → on s r ≡ true
+pub inside_there : (s : Segment) (r : ℕ) (t : Segment) (ts : List Segment) → segments_rise t.end.0 ts ≡ true → In s (t ∷ ts) → on s r ≡ true
     → stands_inside (t ∷ ts) r ≡ inside s r
 unfolding stands_inside
-inside_there t ts s r e (here p) o =
+inside_there s r t ts e (here p) o =
     let o' : on t r ≡ true = rw p at o in
     rw (none_later t.end.0 ts r e (on_high t r o'), p) (or-false (inside t r))
-inside_there t [] s r e (there m) o = absurd (Memᴰ.not-nil m)
-inside_there t (u ∷ us) s r e (there m) o =
-    rw (out_above t r (beyond t.end.0 (u ∷ us) s r e m o)) (inside_there u us s r (step t.end.0 u us e).rest m o)
+inside_there s r t [] e (there m) o = absurd (Memᴰ.not-nil m)
+inside_there s r t (u ∷ us) e (there m) o =
+    rw (out_above t r (beyond t.end.0 (u ∷ us) s r e m o)) (inside_there s r u us (step t.end.0 u us e).rest m o)
