@@ -10,6 +10,7 @@ use book::{Bid, Segment};
 use money::Cents;
 
 // Rule 5: every number is in its range.
+#[tactic(auto, unfolding(book::specs::Rules::segment_in_range))]
 fn segment_in_range(s: Segment) -> bool
     ensures { result ≡ segment_in_range s }
 {
