@@ -82,7 +82,7 @@ fn with(number: u64, byte: u8) -> u64 {
         b'-' => NEGATIVE,
         b'0'..=b'9' => {
             let tens = number % NEGATIVE % 1_844_674_407_370_955_162 * 10;
-            number & NEGATIVE | std::num::wrapping_add_u64(tens, (byte - 48) as u64)
+            number & NEGATIVE | tens.wrapping_add((byte - 48) as u64)
         }
         _ => 0,
     }

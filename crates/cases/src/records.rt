@@ -5,41 +5,49 @@ use crate::{pieces, show};
 use awardwriter::Layout;
 use book::{Bid, Book, Order, Segment};
 use money::{Blanks, Cents, CentsPerBlank};
+use std::io;
 
-pub fn answer(line: &[u8], numbers: &[u8], quantities: &[u64], out: &mut [u8]) {
+pub fn answer(
+    rt: &HostRuntime,
+    line: &[u8],
+    numbers: &[u8],
+    quantities: &[u64],
+    out: &mut [u8],
+) -> io::Result<()> {
     let book = book(numbers);
     match pieces::byte(line, 0) {
         b'b' => {
-            show::verdict(bookrules::check(book));
-            show::line(b"");
+            show::verdict(rt, bookrules::check(book))?;
+            show::line(rt, b"")
         }
-        b'f' => show::figures(sizes::sizes(book)),
-        b'p' => show::price(split::price_split(book, quantities)),
-        b'a' => award(Layout::Sheet, book, out),
-        b'o' => award(Layout::Page, book, out),
+        b'f' => show::figures(rt, sizes::sizes(book)),
+        b'p' => show::price(rt, split::price_split(book, quantities)),
+        b'a' => award(rt, Layout::Sheet, book, out),
+        b'o' => award(rt, Layout::Page, book, out),
         b'w' => {
             let w = bookwriter::write(book, out);
-            show::output(w, out);
+            show::output(rt, w, out)
         }
-        _ => sample(quantities),
+        _ => sample(rt, quantities),
     }
 }
 
 // The award written in a layout, also the empty one beside a refusal.
-fn award(layout: Layout, book: Book, out: &mut [u8]) {
+fn award(rt: &HostRuntime, layout: Layout, book: Book, out: &mut [u8]) -> io::Result<()> {
     let cleared = clearing::clear(book);
     let verdict = cleared.verdict;
     let award = cleared.award;
     let w = awardwriter::write(layout, award, out);
-    show::answer(verdict, w.bytes);
-    show::line(out);
+    show::answer(rt, verdict, w.bytes)?;
+    show::line(rt, out)
 }
 
 // Of the first quantity.
-fn sample(quantities: &[u64]) {
+fn sample(rt: &HostRuntime, quantities: &[u64]) -> io::Result<()> {
     if 0 < quantities.len() {
-        show::number(sampling::sample(Blanks(quantities[0])).0);
+        return show::number(rt, sampling::sample(Blanks(quantities[0])).0);
     }
+    Ok(())
 }
 
 // The first row has the demand, the allowance and the count of bids, each further row the bidder, the carriage, the count

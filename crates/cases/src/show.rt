@@ -4,67 +4,62 @@ use output::TextWritten;
 use refusal::Verdict;
 use sizes::BookSizes;
 use split::SplitPrice;
+use std::io;
+use std::io::Write;
 
-pub fn line(text: &[u8]) {
-    io::write_all(1, text);
-    io::write_all(1, b"\n");
+pub fn text(rt: &HostRuntime, text: &[u8]) -> io::Result<()> {
+    let mut stdout = rt.stdout();
+    stdout.write_all(text)
 }
 
-pub fn number(n: u64) {
-    io::print_decimal(1, n);
-    io::write_all(1, b"\n");
+pub fn line(rt: &HostRuntime, words: &[u8]) -> io::Result<()> {
+    text(rt, words)?;
+    text(rt, b"\n")
 }
 
-pub fn verdict(verdict: Verdict) {
+pub fn number(rt: &HostRuntime, n: u64) -> io::Result<()> {
+    println!(rt; "{n}")
+}
+
+pub fn verdict(rt: &HostRuntime, verdict: Verdict) -> io::Result<()> {
     if let Verdict::Accepted = verdict {
-        io::write_all(1, b"accepted");
-        return;
+        return print!(rt; "accepted");
     }
-    io::write_all(1, b"(refused ");
-    io::print_decimal(1, refusal::number(verdict));
-    io::write_all(1, b" ");
-    io::print_decimal(1, refusal::place(verdict));
-    io::write_all(1, b")");
+    let number = refusal::number(verdict);
+    let place = refusal::place(verdict);
+    print!(rt; "(refused {number} {place})")
 }
 
 // A verdict and the number beside it.
-pub fn answer(v: Verdict, n: u64) {
-    verdict(v);
-    io::write_all(1, b", ");
-    number(n);
+pub fn answer(rt: &HostRuntime, v: Verdict, n: u64) -> io::Result<()> {
+    verdict(rt, v)?;
+    println!(rt; ", {n}")
 }
 
 // The bytes of a book's text, its choices of segments, and the most bytes of its sheet.
-pub fn figures(s: BookSizes) {
-    let v = s.verdict;
-    verdict(v);
-    io::write_all(1, b", ");
-    io::print_decimal(1, s.bytes);
-    io::write_all(1, b", ");
-    io::print_decimal(1, s.choices);
-    io::write_all(1, b", ");
-    number(s.sheet);
+pub fn figures(rt: &HostRuntime, s: BookSizes) -> io::Result<()> {
+    verdict(rt, s.verdict)?;
+    let bytes = s.bytes;
+    let choices = s.choices;
+    let sheet = s.sheet;
+    println!(rt; ", {bytes}, {choices}, {sheet}")
 }
 
 // What a writer answered, and the whole output.
-pub fn output(w: TextWritten, out: &[u8]) {
-    let verdict = w.verdict;
-    answer(verdict, w.bytes);
-    line(out);
+pub fn output(rt: &HostRuntime, w: TextWritten, out: &[u8]) -> io::Result<()> {
+    answer(rt, w.verdict, w.bytes)?;
+    line(rt, out)
 }
 
-pub fn price(s: SplitPrice) {
-    let v = s.verdict;
+pub fn price(rt: &HostRuntime, s: SplitPrice) -> io::Result<()> {
+    verdict(rt, s.verdict)?;
     let price = s.price;
-    verdict(v);
-    io::write_all(1, b", ");
-    if !money::at_most(Cents(0), price) {
-        io::write_all(1, b"-");
-    }
-    io::print_decimal(1, money::magnitude(price));
-    if s.meets {
-        io::write_all(1, b", yes\n");
+    let sign = if money::at_most(Cents(0), price) {
+        ""
     } else {
-        io::write_all(1, b", no\n");
-    }
+        "-"
+    };
+    let magnitude = money::magnitude(price);
+    let meets = if s.meets { "yes" } else { "no" };
+    println!(rt; ", {sign}{magnitude}, {meets}")
 }

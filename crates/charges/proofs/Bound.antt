@@ -55,6 +55,8 @@ module _ (order : Order) (l : ℕ) (s : Segment) (sound : SoundSegment s) where
 pub charges_below : (order : Order) (l : ℕ) (c : List Segment) (xs : List ℕ) → All SoundSegment c → Box c xs → bought (placed c xs) ≤ most_of order
     → charges order l c + l * bought (placed c xs) ≤ cost c xs + l * (million * length c)
 unfolding bought
+charges_below order l [] (x ∷ xs) sound b h = elim b [ ]
+charges_below order l (s ∷ c) [] sound b h = elim b [ ]
 charges_below order l [] [] sound b h = omega arith
 charges_below order l (s ∷ c) (x ∷ xs) sound b h =
     omega (arith, charge_below order l s sound.0 x b.0 (omega arith), charges_below order l c xs sound.1 b.1 (omega arith))

@@ -25,6 +25,8 @@ AtMost (d ∷ ds) (e ∷ es) = (d ≤ e) × AtMost ds es
 at_most_ends : (c : List Segment) (xs ds es : List ℕ) → All SoundSegment c → Box c xs → AtMost ds es
     → AtMost (reverse_aux (placed c xs) ds) (ends_then c es)
 unfolding width
+at_most_ends [] (x ∷ xs) ds es sound b h = elim b [ ]
+at_most_ends (s ∷ c) [] ds es sound b h = elim b [ ]
 at_most_ends [] [] ds es sound b h = h
 at_most_ends (s ∷ c) (x ∷ xs) ds es sound b h =
     at_most_ends c xs ((s.start.0 + x) ∷ ds) (s.end.0 ∷ es) sound.1 b.1 (omega (arith, sound.0.order, b.0), h)
@@ -38,6 +40,7 @@ unfolding gives_more
 more_than zero qs es ds e a h = absurd (false≢true h)
 more_than (suc k) [] es ds e a h = absurd (false≢true h)
 more_than (suc k) (q ∷ qs) [] ds e a h = absurd (omega arith)
+more_than (suc k) (q ∷ qs) (e ∷ es) [] n a h = elim a [ ]
 more_than (suc k) (q ∷ qs) (e ∷ es) (d ∷ ds) n a h =
     go (more_cases q e (take k qs) es h) (dec_lt d q) (λ m. more_than k qs es ds (omega arith) a.1 m)
   where

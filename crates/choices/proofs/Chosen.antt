@@ -77,6 +77,10 @@ module _ (ss : List Segment) (s : Segment) (x : ℕ) (sound : SoundSupply ss) (m
 
 pub chosen_allocation : (supplies : List (List Segment)) (c : List Segment) (xs : List ℕ) → All SoundSupply supplies → Chosen supplies c xs
     → Allocation supplies (placed c xs)
+chosen_allocation [] [] (x ∷ xs) sound a = elim a [ ]
+chosen_allocation [] (s ∷ c) xs sound a = elim a [ ]
+chosen_allocation (ss ∷ supplies) [] xs sound a = elim a [ ]
+chosen_allocation (ss ∷ supplies) (s ∷ c) [] sound a = elim a [ ]
 chosen_allocation [] [] [] sound a = tt
 chosen_allocation (ss ∷ supplies) (s ∷ c) (x ∷ xs) sound (m, h, a) =
     (offers_when ss s (s.start.0 + x) m (chosen_on ss s x sound.0 m h), chosen_allocation supplies c xs sound.1 a)
@@ -84,6 +88,10 @@ chosen_allocation (ss ∷ supplies) (s ∷ c) (x ∷ xs) sound (m, h, a) =
 pub chosen_cost : (supplies : List (List Segment)) (c : List Segment) (xs : List ℕ) → All SoundSupply supplies → Chosen supplies c xs
     → cost_of supplies (placed c xs) ≡ pos (cost c xs)
 unfolding cost_of
+chosen_cost [] [] (x ∷ xs) sound a = elim a [ ]
+chosen_cost [] (s ∷ c) xs sound a = elim a [ ]
+chosen_cost (ss ∷ supplies) [] xs sound a = elim a [ ]
+chosen_cost (ss ∷ supplies) (s ∷ c) [] sound a = elim a [ ]
 chosen_cost [] [] [] sound a = refl
 chosen_cost (ss ∷ supplies) (s ∷ c) (x ∷ xs) sound (m, h, a) =
     let price = sound.0.one_price s (s.start.0 + x) m (chosen_on ss s x sound.0 m h) in
@@ -92,6 +100,10 @@ chosen_cost (ss ∷ supplies) (s ∷ c) (x ∷ xs) sound (m, h, a) =
 pub chosen_inside : (supplies : List (List Segment)) (c : List Segment) (xs : List ℕ) → All SoundSupply supplies → Chosen supplies c xs
     → inside_count supplies (placed c xs) ≡ insides c xs
 unfolding inside_count
+chosen_inside [] [] (x ∷ xs) sound a = elim a [ ]
+chosen_inside [] (s ∷ c) xs sound a = elim a [ ]
+chosen_inside (ss ∷ supplies) [] xs sound a = elim a [ ]
+chosen_inside (ss ∷ supplies) (s ∷ c) [] sound a = elim a [ ]
 chosen_inside [] [] [] sound a = refl
 chosen_inside (ss ∷ supplies) (s ∷ c) (x ∷ xs) sound (m, h, a) =
     let same = sound.0.one_inside s (s.start.0 + x) m (chosen_on ss s x sound.0 m h) in
@@ -100,6 +112,8 @@ chosen_inside (ss ∷ supplies) (s ∷ c) (x ∷ xs) sound (m, h, a) =
 -- and every allocation is of such quantities
 pub allocation_chosen : (supplies : List (List Segment)) (rs : List ℕ) → Allocation supplies rs
     → (c : List Segment) × (xs : List ℕ) × Chosen supplies c xs × (rs ≡ placed c xs)
+allocation_chosen [] (r ∷ rs) a = elim a [ ]
+allocation_chosen (ss ∷ supplies) [] a = elim a [ ]
 allocation_chosen [] [] a = ([], [], tt, refl)
 allocation_chosen (ss ∷ supplies) (r ∷ rs) a =
     let o = offered ss r a.0 in
@@ -109,14 +123,26 @@ allocation_chosen (ss ∷ supplies) (r ∷ rs) a =
 -- Of segments so chosen: their extras are in their box, each is sound, and there is one for each supply function.
 
 pub chosen_box : (supplies : List (List Segment)) (c : List Segment) (xs : List ℕ) → Chosen supplies c xs → Box c xs
+chosen_box [] [] (x ∷ xs) a = elim a [ ]
+chosen_box [] (s ∷ c) xs a = elim a [ ]
+chosen_box (ss ∷ supplies) [] xs a = elim a [ ]
+chosen_box (ss ∷ supplies) (s ∷ c) [] a = elim a [ ]
 chosen_box [] [] [] a = tt
 chosen_box (ss ∷ supplies) (s ∷ c) (x ∷ xs) (m, h, a) = (h, chosen_box supplies c xs a)
 
 pub chosen_each : (supplies : List (List Segment)) (c : List Segment) (xs : List ℕ) → All SoundSupply supplies → Chosen supplies c xs
     → All SoundSegment c
+chosen_each [] [] (x ∷ xs) sound a = elim a [ ]
+chosen_each [] (s ∷ c) xs sound a = elim a [ ]
+chosen_each (ss ∷ supplies) [] xs sound a = elim a [ ]
+chosen_each (ss ∷ supplies) (s ∷ c) [] sound a = elim a [ ]
 chosen_each [] [] [] sound a = tt
 chosen_each (ss ∷ supplies) (s ∷ c) (x ∷ xs) sound (m, h, a) = (all_in SoundSegment ss s sound.0.each m, chosen_each supplies c xs sound.1 a)
 
 pub chosen_length : (supplies : List (List Segment)) (c : List Segment) (xs : List ℕ) → Chosen supplies c xs → length c ≡ length supplies
+chosen_length [] [] (x ∷ xs) a = elim a [ ]
+chosen_length [] (s ∷ c) xs a = elim a [ ]
+chosen_length (ss ∷ supplies) [] xs a = elim a [ ]
+chosen_length (ss ∷ supplies) (s ∷ c) [] a = elim a [ ]
 chosen_length [] [] [] a = refl
 chosen_length (ss ∷ supplies) (s ∷ c) (x ∷ xs) (m, h, a) = ap suc (chosen_length supplies c xs a)

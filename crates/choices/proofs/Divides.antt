@@ -174,6 +174,10 @@ pub as_good : (order : Order) (supplies : List (List Segment)) (c : List Segment
     → order.demand.0 ≤ bought (placed c xs) + bought (placed e ys) → bought (placed c xs) + bought (placed e ys) ≤ most_of order
     → (t : Priced) × Leaf order supplies c t × NotBetter (together c xs e ys) t
 unfolding bought
+as_good order [] c xs [] (x ∷ ys) sound before b a low high = elim a [ ]
+as_good order [] c xs (s ∷ e) ys sound before b a low high = elim a [ ]
+as_good order (ss ∷ supplies) c xs [] ys sound before b a low high = elim a [ ]
+as_good order (ss ∷ supplies) c xs (s ∷ e) [] sound before b a low high = elim a [ ]
 as_good order [] c xs [] [] sound before b a low high =
     let enough : order.demand.0 ≤ bought (placed c xs) = omega arith in
     let not_over : bought (placed c xs) ≤ most_of order = omega arith in

@@ -90,5 +90,7 @@ extras_box left (s ∷ c) = (omega arith, extras_box (left - extra left s c) c)
 
 pub box_widths : (c : List Segment) (ys : List ℕ) → Box c ys → bought ys ≤ widths c
 unfolding bought
+box_widths [] (y ∷ ys) b = elim b [ ]
+box_widths (s ∷ c) [] b = elim b [ ]
 box_widths [] [] b = omega arith
 box_widths (s ∷ c) (y ∷ ys) b = omega (arith, box_widths c ys b.1)

@@ -15,7 +15,7 @@ use Rattle.supply.specs.Meets.{meets}
 use Rattle.supply.proofs.Orders.{meets_low, meets_high, meets_when}
 use Rattle.supply.proofs.Sound.{SoundSupply}
 use Rattle.divisions.specs.Award.{Priced, award_of}
-use Rattle.divisions.proofs.IsBest.{IsBest, NotBetter, best_of, best_iff, best_unique}
+use Rattle.divisions.proofs.IsBest.{IsBest, NotBetter, best_of_lem, best_iff, best_unique}
 use Rattle.divisions.proofs.Award.{PricedDivision, award_best}
 use Rattle.choices.specs.Choice.{placed}
 use Rattle.choices.specs.Leaf.{Leaf}
@@ -68,5 +68,5 @@ module _ (order : Order) (supplies : List (List Segment)) (sound : All SoundSupp
   pub finds : searched order supplies ≡ award_of order supplies
   finds =
       best_unique (PricedDivision order supplies) (searched order supplies) (award_of order supplies)
-      (best_of (PricedDivision order supplies) (Leaf order supplies []) (searched order supplies) found_division division_found (found_best order supplies))
+      (best_of_lem (PricedDivision order supplies) (Leaf order supplies []) (searched order supplies) found_division division_found (found_best order supplies))
       (award_best order supplies)

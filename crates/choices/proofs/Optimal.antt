@@ -67,6 +67,10 @@ exchange u l x y f g = ⊎_elim (λ h. up x y u l h (g h)) (⊎_elim (λ h. rw h
 no_cheaper : (l : ℕ) (c : List Segment) (xs ys : List ℕ) → Under l c xs → Open l c xs → Box c xs → Box c ys
     → cost c xs + l * bought ys ≤ cost c ys + l * bought xs
 unfolding bought
+no_cheaper l [] [] (y ∷ ys) a b p q = elim q [ ]
+no_cheaper l [] (x ∷ xs) ys a b p q = elim p [ ]
+no_cheaper l (s ∷ c) [] ys a b p q = elim p [ ]
+no_cheaper l (s ∷ c) (x ∷ xs) [] a b p q = elim q [ ]
 no_cheaper l [] [] [] a b p q = omega arith
 no_cheaper l (s ∷ c) (x ∷ xs) (y ∷ ys) a b p q =
     omega (arith, exchange s.unit.0 l x y (λ h. a.0 (omega arith)) (λ h. b.0 (omega arith)), no_cheaper l c xs ys a.1 b.1 p.1 q.1)
@@ -85,6 +89,10 @@ exact u l x y h k e = ⊎_elim (λ m. absurd (strict m)) (⊎_elim (λ m. m) (λ
 tied : (l : ℕ) (c : List Segment) (xs ys : List ℕ) → Cert c xs → Under l c xs → Open l c xs → Box c xs → Box c ys
     → cost c xs + l * bought ys ≡ cost c ys + l * bought xs → bought ys ≤ bought xs → (ys ≡ xs) ⊎ Less ys xs
 unfolding bought
+tied l [] [] (y ∷ ys) z a b p q e t = elim q [ ]
+tied l [] (x ∷ xs) ys z a b p q e t = elim p [ ]
+tied l (s ∷ c) [] ys z a b p q e t = elim p [ ]
+tied l (s ∷ c) (x ∷ xs) [] z a b p q e t = elim q [ ]
 tied l [] [] [] z a b p q e t = inl refl
 tied l (s ∷ c) (x ∷ xs) (y ∷ ys) z a b p q e t = go (order y x) (λ k. tied l c xs ys z.2 a.1 b.1 p.1 q.1 (omega (arith, head, rest)) k)
   where

@@ -51,6 +51,8 @@ cost_with_lem (s ∷ c) (x ∷ xs) sound = ap₂ ◌+ℤ◌ (price_on_lem s x so
 
 pub placed_bought : (c : List Segment) (xs : List ℕ) → Box c xs → bought (placed c xs) ≡ starts c + bought xs
 unfolding bought
+placed_bought [] (x ∷ xs) b = elim b [ ]
+placed_bought (s ∷ c) [] b = elim b [ ]
 placed_bought [] [] b = omega arith
 placed_bought (s ∷ c) (x ∷ xs) b = omega (arith, placed_bought c xs b.1)
 
@@ -78,6 +80,10 @@ module _ (order : Order) (c : List Segment) where
 -- Where they differ first, in book order.
 
 pub placed_less : (c : List Segment) (ys xs : List ℕ) → Box c ys → Box c xs → Less ys xs → Less (placed c ys) (placed c xs)
+placed_less [] [] (x ∷ xs) b d h = elim d [ ]
+placed_less [] (y ∷ ys) xs b d h = elim b [ ]
+placed_less (s ∷ c) [] xs b d h = elim b [ ]
+placed_less (s ∷ c) (y ∷ ys) [] b d h = elim d [ ]
 placed_less [] [] [] b d h = h
 placed_less (s ∷ c) (y ∷ ys) (x ∷ xs) b d (inl h) = inl (placed_less c ys xs b.1 d.1 h)
 placed_less (s ∷ c) (y ∷ ys) (x ∷ xs) b d (inr h) = inr (ap (λ (l : List ℕ). placed c l) h.0, omega arith)
@@ -88,5 +94,7 @@ more_after [] xs ys h = h
 more_after (z ∷ zs) xs ys h = more_after zs (z ∷ xs) (z ∷ ys) (more_later z z xs ys refl h)
 
 pub less_more : (ys xs v w : List ℕ) → Less ys xs → gives_more (reverse_aux xs w) (reverse_aux ys v) ≡ true
+less_more [] xs v w x' = elim x' [ ]
+less_more (y ∷ ys) [] v w x3 = elim x3 [ ]
 less_more (y ∷ ys) (x ∷ xs) v w (inl h) = less_more ys xs (y ∷ v) (x ∷ w) h
 less_more (y ∷ ys) (x ∷ xs) v w (inr h) = rw h.0 (more_after xs (x ∷ w) (y ∷ v) (more_here x y w v h.1))

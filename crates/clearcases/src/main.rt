@@ -8,6 +8,7 @@ mod small_books;
 mod splits;
 
 use small_books::SmallBook;
+use std::io;
 
 // `small_books` should make no book that is refused by a rule before 9.
 #[derive(Clone, Copy)]
@@ -21,21 +22,19 @@ struct Counts {
     different: u64,
 }
 
-fn main() {
+fn main(rt: HostRuntime) -> io::Result<()> {
     let c = count();
-    line(b"small books refused: ", c.refused);
-    line(b"small books covered: ", c.covered);
-    line(b"small books not covered: ", c.not_covered);
-    line(b"with a tie for the cheapest: ", c.ties);
-    line(b"bought above the demand: ", c.above);
-    line(b"cleared alike both ways: ", c.alike);
-    line(b"cleared differently: ", c.different);
+    line(&rt, "small books refused: ", c.refused)?;
+    line(&rt, "small books covered: ", c.covered)?;
+    line(&rt, "small books not covered: ", c.not_covered)?;
+    line(&rt, "with a tie for the cheapest: ", c.ties)?;
+    line(&rt, "bought above the demand: ", c.above)?;
+    line(&rt, "cleared alike both ways: ", c.alike)?;
+    line(&rt, "cleared differently: ", c.different)
 }
 
-fn line(name: &[u8], n: u64) {
-    io::write_all(1, name);
-    io::print_decimal(1, n);
-    io::write_all(1, b"\n");
+fn line(rt: &HostRuntime, name: &str, n: u64) -> io::Result<()> {
+    println!(rt; "{name}{n}")
 }
 
 fn count() -> Counts {
@@ -78,7 +77,7 @@ fn counted(c: Counts, book: SmallBook) -> Counts {
 // One more where it is so. The counts are far from where they would wrap.
 fn one_if(n: u64, yes: bool) -> u64 {
     if yes {
-        return std::num::wrapping_add_u64(n, 1);
+        return n.wrapping_add(1);
     }
     n
 }

@@ -76,7 +76,7 @@ fn on_segment(segment: u64, s: SmallSegment, carriage: u64, quantity: u64) -> Of
     let rest = goods + small_books::cost(carriage, quantity % 9);
     Offer {
         segment,
-        price: std::num::wrapping_sub_u64(rest, s.off),
+        price: rest.wrapping_sub(s.off),
     }
 }
 
@@ -112,7 +112,7 @@ fn cost(book: SmallBook, struck: usize, split: u64) -> u64 {
     let first = price(book, struck, split, 0);
     let second = price(book, struck, split, 1);
     let third = price(book, struck, split, 2);
-    std::num::wrapping_add_u64(std::num::wrapping_add_u64(first, second), third)
+    first.wrapping_add(second).wrapping_add(third)
 }
 
 // The best so far, and a split that costs the same: it is better only if it has fewer blanks, since it is listed later.

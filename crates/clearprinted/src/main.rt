@@ -3,6 +3,6 @@
 
 use awardwriter::Layout;
 
-fn main() {
-    console::run(Layout::Sheet);
+fn main(rt: HostRuntime) {
+    console::run(&rt, Layout::Sheet);
 }

@@ -9,39 +9,41 @@ mod told;
 
 use awardwriter::Layout;
 use input::{File, Input};
-use libc::{STDIN_FILENO, STDOUT_FILENO};
 use refusal::Verdict;
+use std::io::Write;
 
-pub fn run(layout: Layout) {
+pub fn run(rt: &HostRuntime, layout: Layout) {
     // One byte more than a text may have, so that a longer one is seen to be too long; so it is with the book's.
     let mut table = [0u8; 4097];
-    let file = input::read_file(b"sampling", &mut table);
+    let file = input::read_file(rt, "sampling", &mut table);
     match file {
-        File::Missing => clear_book(layout, false, &table[..0]),
-        File::Held(n) => clear_book(layout, true, &table[..n]),
+        File::Missing => clear_book(rt, layout, false, &table[..0]),
+        File::Held(n) => clear_book(rt, layout, true, &table[..n]),
         // What is left of a text after a failed read can still be a whole text, so no award is printed; so it is with the book's.
-        File::Unread => told::table_failed(layout),
+        File::Unread(error) => told::table_failed(rt, layout, error),
     }
 }
 
 // Sampled by the table, if one was loaded, and else by the printed one.
-fn clear_book(layout: Layout, loaded: bool, table: &[u8]) {
+fn clear_book(rt: &HostRuntime, layout: Layout, loaded: bool, table: &[u8]) {
     let mut text = [0u8; 4097];
-    let read = input::read(STDIN_FILENO, &mut text);
+    let mut stdin = rt.stdin();
+    let read = input::read(&mut stdin, &mut text);
     match read {
-        Input::Bytes(n) => print(layout, loaded, table, &text[..n]),
-        Input::Failed => told::input_failed(layout),
+        Input::Bytes(n) => print(rt, layout, loaded, table, &text[..n]),
+        Input::Failed(error) => told::input_failed(rt, layout, error),
     }
 }
 
-fn print(layout: Layout, loaded: bool, table: &[u8], text: &[u8]) {
+fn print(rt: &HostRuntime, layout: Layout, loaded: bool, table: &[u8], text: &[u8]) {
     let mut out = [0u8; 600];
     let n = put(layout, loaded, table, text, &mut out);
-    if !io::write_all(STDOUT_FILENO, &out[..n]) {
-        told::output_failed(layout);
+    let mut stdout = rt.stdout();
+    if let Err(error) = stdout.write_all(&out[..n]) {
+        told::output_failed(rt, layout, error);
     }
     if loaded {
-        tell_refused(layout, table);
+        tell_refused(rt, layout, table);
     }
 }
 
@@ -56,10 +58,10 @@ fn put(layout: Layout, loaded: bool, table: &[u8], text: &[u8], out: &mut [u8]) 
 }
 
 // The line of a refusal does not say which of the two texts it is about.
-fn tell_refused(layout: Layout, table: &[u8]) {
+fn tell_refused(rt: &HostRuntime, layout: Layout, table: &[u8]) {
     let read = tablereader::read(table);
     let verdict = read.verdict;
     if let Verdict::Refused(_, _) = verdict {
-        told::table_refused(layout);
+        told::table_refused(rt, layout);
     }
 }

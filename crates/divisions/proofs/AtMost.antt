@@ -18,6 +18,7 @@ most_test : (a b : ℤ) → a ≤ℤ b → le_z a b ≡ true
 most_test a b h = go (le_z a b) h.le
   where
     go : (t : Bool) → T t → t ≡ true
+    go false h = elim h [ ]
     go true h = refl
 
 -- a at most b: what there is to add to a

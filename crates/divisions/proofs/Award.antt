@@ -17,7 +17,7 @@ use Rattle.divisions.specs.Listing.{divisions}
 use Rattle.divisions.specs.Award.{Priced, priced, better, award_of}
 use Rattle.divisions.specs.IsAward.{LosesTie, Worse, IsAward}
 use Rattle.divisions.proofs.Signed.{less, less_test}
-use Rattle.divisions.proofs.Order.{Wins, better_cases, better_cost, better_tie, gives_less, gives_more}
+use Rattle.divisions.proofs.Order.{Wins, better_cases, better_cost, better_tie, gives_less, gives_more_lem}
 use Rattle.divisions.proofs.IsBest.{IsBest, best_iff, best_unique, best_listed}
 use Rattle.divisions.proofs.Listed.{listed_iff}
 
@@ -53,6 +53,8 @@ module _ (order : Order) (supplies : List (List Segment)) where
 
 -- a division has a quantity for each bidder
 pub as_many : (supplies : List (List Segment)) (rs : List ℕ) → Allocation supplies rs → length rs ≡ length supplies
+as_many [] (r ∷ rs) a = elim a [ ]
+as_many (ss ∷ supplies) [] a = elim a [ ]
 as_many [] [] a = refl
 as_many (ss ∷ supplies) (r ∷ rs) a = ap suc (as_many supplies rs a.1)
 
@@ -66,7 +68,7 @@ module _ (order : Order) (supplies : List (List Segment)) (award : Priced) where
   wins : (rs : List ℕ) → length rs ≡ length award.quantities → award.blanks ≡ bought award.quantities → LosesTie rs award.quantities
       → Wins award (priced supplies rs)
   wins rs e b (inl h) = inl (omega arith)
-  wins rs e b (inr h) = inr (omega (arith, h.0), gives_more award.quantities rs e h.1)
+  wins rs e b (inr h) = inr (omega (arith, h.0), gives_more_lem award.quantities rs e h.1)
 
   one_length : (rs : List ℕ) → Division order supplies rs → Division order supplies award.quantities → length rs ≡ length award.quantities
   one_length rs d a = as_many supplies rs d.allocation ∙ sym (as_many supplies award.quantities a.allocation)

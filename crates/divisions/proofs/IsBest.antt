@@ -20,10 +20,10 @@ abbrev pub NotBetter : Priced → Priced → Type 0
 NotBetter d best = (d ≡ best) ⊎ (better best d ≡ true)
 
 -- a smaller set will do, if it has one at least as good for each of the larger
-pub best_of : (P Q : Priced → Type 0) (o : Option Priced) → ((d : Priced) → Q d → P d)
+pub best_of_lem : (P Q : Priced → Type 0) (o : Option Priced) → ((d : Priced) → Q d → P d)
     → ((d : Priced) → P d → (e : Priced) × Q e × ((d ≡ e) ⊎ (better e d ≡ true))) → IsBest Q o → IsBest P o
-best_of P Q none f g b = λ d p. b (g d p).0 (g d p).1
-best_of P Q (some best) f g b = (f best b.0, λ d p. go d (g d p).0 (g d p).2 (b.1 (g d p).0 (g d p).1))
+best_of_lem P Q none f g b = λ d p. b (g d p).0 (g d p).1
+best_of_lem P Q (some best) f g b = (f best b.0, λ d p. go d (g d p).0 (g d p).2 (b.1 (g d p).0 (g d p).1))
   where
     go : (d e : Priced) → NotBetter d e → NotBetter e best → NotBetter d best
     go d e (inl h) (inl k) = inl (h ∙ k)
@@ -32,7 +32,7 @@ best_of P Q (some best) f g b = (f best b.0, λ d p. go d (g d p).0 (g d p).2 (b
     go d e (inr h) (inr k) = inr (better_trans best e d k h)
 
 pub best_iff : (P Q : Priced → Type 0) (o : Option Priced) → ((d : Priced) → Q d → P d) → ((d : Priced) → P d → Q d) → IsBest Q o → IsBest P o
-best_iff P Q o f g b = best_of P Q o f (λ d p. (d, g d p, inl refl)) b
+best_iff P Q o f g b = best_of_lem P Q o f (λ d p. (d, g d p, inl refl)) b
 
 pub best_unique : (P : Priced → Type 0) (o o' : Option Priced) → IsBest P o → IsBest P o' → o ≡ o'
 best_unique P none none a b = refl

@@ -36,6 +36,8 @@ at_most most (r ∷ rs) h = (omega arith, at_most most rs (omega arith))
 
 allocation_in : (most : ℕ) (supplies : List (List Segment)) (rs : List ℕ) → Allocation supplies rs → AtMost most rs → In rs (allocations most supplies)
 unfolding allocations
+allocation_in most [] (r ∷ rs) a l = elim a [ ]
+allocation_in most (ss ∷ supplies) [] a l = elim a [ ]
 allocation_in most [] [] a l = here refl
 allocation_in most (ss ∷ supplies) (r ∷ rs) a l =
     in_joined (λ (q : ℕ). map (λ (qs : List ℕ). q ∷ qs) (allocations most supplies)) (those (offers ss) (down_from most)) r (r ∷ rs)

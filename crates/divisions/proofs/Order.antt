@@ -92,8 +92,8 @@ more_at (x ∷ xs) (r ∷ rs) (suc i) e s h =
     let rest : take i rs ≡ take i xs = cc in
     more_later x r xs rs same (more_at xs rs i (omega arith) rest h)
 
-pub gives_more : (xs rs : List ℕ) → length rs ≡ length xs → GivesLess rs xs → More xs rs
-gives_more xs rs e l = more_at xs rs l.bidder e l.same_before l.less
+pub gives_more_lem : (xs rs : List ℕ) → length rs ≡ length xs → GivesLess rs xs → More xs rs
+gives_more_lem xs rs e l = more_at xs rs l.bidder e l.same_before l.less
 
 -- ---- of two that cost the same
 

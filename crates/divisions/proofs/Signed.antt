@@ -80,4 +80,5 @@ pub less_test : (a b : ℤ) → a <ℤ b → lt_z a b ≡ true
 less_test a b h = go (lt_z a b) h.lt
   where
     go : (t : Bool) → T t → t ≡ true
+    go false h = elim h [ ]
     go true h = refl

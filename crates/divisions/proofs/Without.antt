@@ -86,6 +86,10 @@ without_with (suc i) (ss ∷ supplies) (r ∷ rs) h a = ap (λ (l : List ℕ). r
 -- An allocation in which bidder i gets nothing, without it.
 
 without_allocation : (i : ℕ) (supplies : List (List Segment)) (rs : List ℕ) → Allocation supplies rs → Allocation (removed i supplies) (removed i rs)
+without_allocation zero [] (r ∷ rs) a = elim a [ ]
+without_allocation zero (ss ∷ supplies) [] a = elim a [ ]
+without_allocation (suc i) [] (r ∷ rs) a = elim a [ ]
+without_allocation (suc i) (ss ∷ supplies) [] a = elim a [ ]
 without_allocation zero [] [] a = tt
 without_allocation zero (ss ∷ supplies) (r ∷ rs) a = a.1
 without_allocation (suc i) [] [] a = tt
@@ -94,6 +98,8 @@ without_allocation (suc i) (ss ∷ supplies) (r ∷ rs) a = (a.0, without_alloca
 with_without : (i : ℕ) (supplies : List (List Segment)) (rs : List ℕ) → i < length supplies → Allocation supplies rs → get_or rs i 0 ≡ 0
     → with_nothing i (removed i rs) ≡ rs
 with_without i [] rs h a e = absurd (not-suc-le-zero h)
+with_without zero (ss ∷ supplies) [] h a e = elim a [ ]
+with_without (suc i) (ss ∷ supplies) [] h a e = elim a [ ]
 with_without zero (ss ∷ supplies) (r ∷ rs) h a e = ap (λ (n : ℕ). n ∷ rs) (sym e)
 with_without (suc i) (ss ∷ supplies) (r ∷ rs) h a e = ap (λ (l : List ℕ). r ∷ l) (with_without i supplies rs (le_of_suc-le-suc h) a.1 e)
 

@@ -4,34 +4,35 @@
 ghost use Rattle.std.specs.Prelude.{◌≤◌, length};
 ghost use Rattle.input.specs.Input.{bytes_read, bytes_held};
 
-use libc::ENOENT;
+use std::fs;
+use std::fs::Files;
+use std::io::{Error, ErrorKind, Read};
 
-// How many bytes were read, or that a read failed.
+// How many bytes were read, or why a read failed.
 #[derive(Clone, Copy)]
 pub enum Input {
     Bytes(usize),
-    Failed,
+    Failed(Error),
 }
 
-// How many bytes of a file were read, that there is no such file, or that it could not be opened or read.
+// How many bytes of a file were read, that there is no such file, or why it could not be opened or read.
 #[derive(Clone, Copy)]
 pub enum File {
     Held(usize),
     Missing,
-    Unread,
+    Unread(Error),
 }
 
 // Reads until the buffer is full or the input ends.
-pub fn read(fd: i32, buf: &mut [u8]) -> Input
+pub fn read<R: Read>(reader: &mut R, buf: &mut [u8]) -> Input
     ensures { bytes_read result ≤ length buf.new }
 {
     let mut done: usize = 0;
     while done < buf.len() {
-        let got = libc::read(fd, &mut buf[done..]);
-        if got < 0 {
-            return Input::Failed;
-        }
-        let more = io::count(got, &buf[done..]);
+        let more = match reader.read(&mut buf[done..]) {
+            Ok(n) => n,
+            Err(error) => return Input::Failed(error),
+        };
         if more == 0 {
             return Input::Bytes(done);
         }
@@ -40,30 +41,26 @@ pub fn read(fd: i32, buf: &mut [u8]) -> Input
     Input::Bytes(done)
 }
 
-// Reads a file likewise. One that could not be read is left open, since closing it could change errno, which says what failed; any other is
-// closed, so that its descriptor is not taken for standard input where that was closed.
-pub fn read_file(path: &[u8], buf: &mut [u8]) -> File
+// Reads a file likewise.
+pub fn read_file<R: Files>(rt: &R, path: &str, buf: &mut [u8]) -> File
     ensures { bytes_held result ≤ length buf.new }
 {
-    let fd = os::open_read(path);
-    if fd < 0 {
-        return unopened();
-    }
-    let input = read(fd, buf);
-    let Input::Bytes(n) = input else {
-        return File::Unread;
+    let mut file = match fs::open(rt, path) {
+        Ok(file) => file,
+        Err(error) => return unopened(error),
     };
-    libc::close(fd);
-    File::Held(n)
+    match read(&mut file, buf) {
+        Input::Bytes(n) => File::Held(n),
+        Input::Failed(error) => File::Unread(error),
+    }
 }
 
 // Why a file could not be opened.
-fn unopened() -> File
+fn unopened(error: Error) -> File
     ensures { bytes_held result ≤ 0 }
 {
-    let error = os::errno();
-    if error == ENOENT {
+    if error.kind() == ErrorKind::NotFound {
         return File::Missing;
     }
-    File::Unread
+    File::Unread(error)
 }

@@ -3,6 +3,6 @@
 
 use awardwriter::Layout;
 
-fn main() {
-    console::run(Layout::Page);
+fn main(rt: HostRuntime) {
+    console::run(&rt, Layout::Page);
 }

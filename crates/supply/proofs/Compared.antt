@@ -40,11 +40,15 @@ module _ (Q : ℕ → ℤ → ℤ → Type 0) where
   same_offers : (ss ts : List Segment) → Pairwise Compared ss ts → (r : ℕ) → offers ts r ≡ offers ss r
   unfolding offers
   same_offers [] [] c r = refl
+  same_offers [] (t ∷ ts) c r = elim c [ ]
+  same_offers (s ∷ ss) [] c r = elim c [ ]
   same_offers (s ∷ ss) (t ∷ ts) c r = rw (on_same s t c.0 r, same_offers ss ts c.1 r)
 
   prices : (ss ts : List Segment) → Pairwise Compared ss ts → (r : ℕ) → offers ss r ≡ true → Q r (price_at ss r) (price_at ts r)
   unfolding offers price_at
   prices [] [] c r o = absurd (false≢true o)
+  prices [] (t ∷ ts) c r o = elim c [ ]
+  prices (s ∷ ss) [] c r o = elim c [ ]
   prices (s ∷ ss) (t ∷ ts) c r o = rw (on_same s t c.0 r) (go (on s r) refl (λ e. c.0.price r e) (λ e. prices ss ts c.1 r (rw e at o)))
     where
       go : (b : Bool) → on s r ≡ b → (on s r ≡ true → Q r (price_on s r) (price_on t r)) → (on s r ≡ false → Q r (price_at ss r) (price_at ts r))

@@ -1,0 +1,9 @@
+-- A read stores no more bytes than the buffer has left, so `done` stays within it; a turn that goes on reads at least one, so the loop ends.
+use Rattle.std.proofs.Common.{◌≤◌, ◌-◌, length}
+use Rattle.input.proofs.read.Given as goal
+
+abbrev pub invariant-loop-done : goal.invariant-loop-done
+invariant-loop-done g l = l.done ≤ length l.buf
+
+abbrev pub decreases-loop-done : goal.decreases-loop-done
+decreases-loop-done g l = length l.initial.buf - l.done
