@@ -1,5 +1,5 @@
 -- The award of a text as numbers, for C: what every text and every lent list of numbers gets. No total is negative
--- (endtoend/proofs/Fits.antt: `text-total-up-to`), so that no sign is lost.
+-- (endtoend/proofs/Fits.antt: `text_total_up_to`), so that no sign is lost.
 use Rattle.std.specs.Prelude.{ℕ, ◌*◌, ◌≤◌, List, [], ◌∷◌, ◌≡◌, leb, nat_abs, length}
 use Rattle.refusal.specs.Checks.{unless, first_of, when_accepted}
 use Rattle.refusal.specs.declared.Rule.TheVariants.{OutputLength}

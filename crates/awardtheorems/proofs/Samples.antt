@@ -30,7 +30,7 @@ module _ (table : TableEntries) (passes : table_verdict table ≡ Accepted) (boo
       let e = row_is table book held accepted i here in
       ap (λ (r : Row). r.sample.0) e ∙ ap (λ (r : Row). sample_of table r.quantity.0) (sym e)
 
-  -- a bidder who sells something: the sample of the band in which the quantity lies; there is no second one (`no-second-band`)
+  -- a bidder who sells something: the sample of the band in which the quantity lies; there is no second one (`no_second_band`)
   pub sample_of_its_band : 1 ≤ row.quantity.0 → (k : ℕ) × LiesIn table k row.quantity.0 × (row.sample.0 ≡ (band_at table k).sample)
   sample_of_its_band some =
       let most = (rows_up_to table book held accepted (sample_small table passes) i here).quantity in

@@ -126,7 +126,7 @@ pub extern "C" fn boccelarch_split(
     refusal::number(verdict)
 }
 
-// The award as numbers: what is bought, its total, how many bids there are, and seven numbers for each (`rowNumbers`).
+// The award as numbers: what is bought, its total, how many bids there are, and seven numbers for each (`row_numbers`).
 #[unsafe(no_mangle)]
 pub extern "C" fn boccelarch_award(
     text: &[u8],

@@ -24,8 +24,8 @@ book_answer b =
     record { verdict = verdict; book = when_accepted verdict (book_record b) empty_book }
 
 -- Any text: refused by its length, or answered by what it is, a book's text or not of the shape. That every text has such a reading is the
--- theorem `book-reading`, the one thing of proofs/ that a definition names. Which reading it gives makes no difference
--- (bookreader/proofs/Answers.antt: `any-reading`).
+-- theorem `book_reading`, the one thing of proofs/ that a definition names. Which reading it gives makes no difference
+-- (bookreader/proofs/Answers.antt: `any_reading`).
 unfoldable pub read_of : List ℕ → BookRead
 read_of t =
     cond (leb (length t) 4096) (answer WellFormedBook book_text book_answer (refused_answer Shape) (book_reading t))

@@ -1,4 +1,4 @@
--- Every division, listed. It is never evaluated; that it has exactly the divisions is the theorem `listed-iff` (proofs/Listed.antt).
+-- Every division, listed. It is never evaluated; that it has exactly the divisions is the theorem `listed_iff` (proofs/Listed.antt).
 use Rattle.std.specs.Prelude.{ℕ, zero, suc, List, [], ◌∷◌, map}
 use Rattle.lists.specs.Joined.{joined}
 use Rattle.lists.specs.Those.{those}

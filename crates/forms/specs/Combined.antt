@@ -5,7 +5,7 @@ use Rattle.forms.specs.Form.{Parse, parsed, stopped, after, Form}
 use Rattle.forms.specs.Word.{word}
 
 module _ {A B : Type 0} where
-  -- p, and then q: `then-parse` goes on from what was parsed of p
+  -- p, and then q: `then_parse` goes on from what was parsed of p
   abbrev pub then_parse : Form A → Form B → Parse A → Parse (A × B)
   then_parse p q (parsed a r) = after (length (p.text a)) (λ b. (a, b)) (q.parse r)
   then_parse p q (stopped n) = stopped n

@@ -21,7 +21,7 @@ use Rattle.bookreader.specs.Reading.{refused_answer, read_of}
 use Rattle.bookreader.proofs.Answers.{books, read_other}
 use Rattle.roundtrip.specs.NotOfShape.{NotOfShape}
 
--- What a text of at most 4,096 bytes is answered by (`by-reading`); any other is refused by its length (`by_length`).
+-- What a text of at most 4,096 bytes is answered by (`by_reading`); any other is refused by its length (`by_length`).
 abbrev pub Answered : List ℕ → Type 0
 Answered = Any.Answered books
 

@@ -1,4 +1,4 @@
--- The rows of an award as numbers, for C. No amount of an award is negative (endtoend/proofs/Fits.antt: `text-row-up-to`), so that no
+-- The rows of an award as numbers, for C. No amount of an award is negative (endtoend/proofs/Fits.antt: `text_row_up_to`), so that no
 -- sign is lost.
 use Rattle.std.specs.Prelude.{ℕ, ◌*◌, ◌≤◌, List, [], ◌∷◌, nat_abs, length, take}
 use Rattle.lists.specs.Joined.{joined}

@@ -1,5 +1,5 @@
 -- A supply function: how many segments it has, and which stands where. What lies above this crate cites these laws, and those of `Accepted`,
--- and never opens `supplyOf`. Assumes nothing.
+-- and never opens `supply_of`. Assumes nothing.
 use Prim.Native.Nat.{ℕ, zero, suc, ◌+◌, ◌-◌, ◌≤◌, ◌<◌}
 use native.Mathlib.Numerals.{sub-one}
 use native.Mathlib.Omega.{arith}

@@ -25,13 +25,13 @@ table_answer t =
     record { verdict = verdict; table = when_accepted verdict (table_record t) empty_table }
 
 -- Any text: refused by its length, or answered by what it is, a table's text or not of the shape. That every text has such a reading is the
--- theorem `table-reading`, the one thing of proofs/ that a definition names here. Which reading it gives makes no difference
--- (textreading/proofs/Answers.antt: `any-reading`).
+-- theorem `table_reading`, the one thing of proofs/ that a definition names here. Which reading it gives makes no difference
+-- (textreading/proofs/Answers.antt: `any_reading`).
 unfoldable pub read_table_of : List ℕ → TableRead
 read_table_of t =
     cond (leb (length t) 4096) (answer WellFormedTable table_text table_answer (refused_table Shape) (table_reading t))
     (refused_table TextLength 4096)
 
--- the printed table, which passes (tablerules/proofs/Passing.antt: `printed-passes`)
+-- the printed table, which passes (tablerules/proofs/Passing.antt: `printed_passes`)
 abbrev pub printed_read : TableRead
 printed_read = record { verdict = Accepted; table = table_record printed_table }
