@@ -41,6 +41,7 @@ named_at bidder line before (b ∷ bs) d e (suc i) h is =
 module _ (bidder : ℕ) where
   pub named_within : (bs : List BidEntries) (i : ℕ) → Named bidder bs i → i < length bs
   named_within (b ∷ bs) zero n = omega arith
+  named_within [] i n = elim n [ ]
   named_within (b ∷ bs) (suc i) n = omega (arith, named_within bs i n.1)
 
   -- where no bid is the bidder's, none is among those that are, and none is changed
@@ -57,10 +58,12 @@ module _ (bidder : ℕ) where
   pub those_named : (bs : List BidEntries) (i : ℕ) (d : BidEntries) → Named bidder bs i → those (is_of bidder) bs ≡ get_or bs i d ∷ []
   unfolding those
   those_named (b ∷ bs) zero d n = rw n.0 (ap (λ (l : List BidEntries). b ∷ l) (none_of bs n.1))
+  those_named [] i d n = elim n [ ]
   those_named (b ∷ bs) (suc i) d n = rw n.0 (those_named bs i d n.1)
 
   pub off_named : (cents : ℕ) (bs : List BidEntries) (i : ℕ) (d : BidEntries) → Named bidder bs i → bids_off bidder cents bs ≡ set bs i (bid_off cents (get_or bs i d))
   off_named cents (b ∷ bs) zero d n = rw n.0 (ap (λ (l : List BidEntries). bid_off cents b ∷ l) (none_off cents bs n.1))
+  off_named cents [] i d n = elim n [ ]
   off_named cents (b ∷ bs) (suc i) d n = rw n.0 (ap (λ (l : List BidEntries). b ∷ l) (off_named cents bs i d n.1))
 
 -- the bid is one of those that a record holds

@@ -85,6 +85,7 @@ module _ (cents : ℕ) where
       let (here, (rest, _)) = all_passed (bid_verdict line before b ∷ bids_verdict (line + 1) b.bidder bs ∷ []) e in
       let at : line ≡ line + 0 = omega arith in
       rw (n.0, bid_verdict_lem line before b here, none_off bidder cents bs n.1, rest) (before_accepted _ ∙ ap (unless (kept_off cents b) NegativePrice) at)
+  bids_verdict_lem bidder line before [] i d n e = elim n [ ]
   bids_verdict_lem bidder line before (b ∷ bs) (suc i) d n e =
       let (here, (rest, _)) = all_passed (bid_verdict line before b ∷ bids_verdict (line + 1) b.bidder bs ∷ []) e in
       let at : line + 1 + i ≡ line + suc i = omega arith in
