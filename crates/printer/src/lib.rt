@@ -12,6 +12,7 @@ mod cents;
 pub use cents::{put_cents, put_money};
 
 // The bytes of w, from `at` on.
+#[tactic(auto, using(std::proofs::lemmas::List::Edits::paste_more, crate::proofs::Written::written_paste))]
 fn write_word(out: &mut [u8], at: usize, w: &[u8]) -> usize
     requires { at + length w.now ≤ length out.old }
     ensures { Wrote out.old at w.now out.new result }
@@ -25,6 +26,7 @@ fn write_word(out: &mut [u8], at: usize, w: &[u8]) -> usize
 }
 
 // The digits of n, at the beginning of the output.
+#[tactic(auto, using(forms::proofs::Digits::length_one, forms::proofs::Digits::length_more, crate::proofs::Digits::wrote_digit, crate::proofs::Digits::wrote_digits))]
 fn write_digits(out: &mut [u8], n: u64) -> usize
     requires { length (digits n) ≤ length out.old }
     ensures { Wrote out.old 0 (digits n) out.new result }
@@ -47,6 +49,7 @@ fn digit(d: u64) -> u8
 }
 
 // The bytes of w, from `at` on, where they fit. Answers the place after them all the same.
+#[tactic(auto, unfolding(crate::specs::Written::placed))]
 pub fn put_word(out: &mut [u8], at: usize, w: &[u8]) -> usize
     requires { Placeable at w.now }
     ensures value { result ≡ at + length w.now }
@@ -61,6 +64,7 @@ pub fn put_word(out: &mut [u8], at: usize, w: &[u8]) -> usize
 }
 
 // The digits of n in the same way.
+#[tactic(auto, using(crate::proofs::Written::part_back))]
 pub fn put_number(out: &mut [u8], at: usize, n: u64) -> usize
     requires { at < 2 ^ 63 }
     ensures put { Put out.old at (digits n) out.new result }
@@ -75,6 +79,7 @@ pub fn put_number(out: &mut [u8], at: usize, n: u64) -> usize
 }
 
 // How many digits n has.
+#[tactic(auto, using(forms::proofs::Digits::length_one, forms::proofs::Digits::length_more))]
 fn digit_count(n: u64) -> usize
     ensures value { result ≡ length (digits n) }
     ensures upper_bound { result ≤ 20 }
