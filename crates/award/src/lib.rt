@@ -83,6 +83,7 @@ fn price_of(bid: Bid, quantity: Blanks) -> Cents
 }
 
 // The row of a bid of an accepted book, sampled by a table.
+#[tactic(auto, unfolding(crate::specs::Award::row_of))]
 pub fn row_of(table: Table, bid: Bid, quantity: Blanks, without: Total) -> Row
     requires { AcceptedBid (bid_entries bid) }
     ensures { result ≡ row_of (table_entries table) (bid_entries bid) quantity.0 without }
