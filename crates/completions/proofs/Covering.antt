@@ -31,6 +31,8 @@ module _ (order : Order) (prices : Prices) where
     where
       has : (e : List Segment) (ys : List ℕ) → Chosen [] e ys → bought (placed e ys) ≤ most_of order
           → Has 1 after at (bought (placed e ys)) (charges order prices.first.0 e) (charges order prices.second.0 e)
+      has [] (_ ∷ _) chosen fit = elim chosen [ ]
+      has (_ ∷ _) ys chosen fit = elim chosen [ ]
       has [] [] chosen fit =
           let first : 32 * at + 0 ≡ 32 * at = omega arith in
           record { class = 0; within = omega arith; admits = rw (first, put.here) (omega arith) }

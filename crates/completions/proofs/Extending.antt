@@ -93,6 +93,8 @@ module _ (order : Order) (at : ℕ) (prices : Prices) (supplies : List (List Seg
   covers_none table = record { has = has }
     where
       has : (e : List Segment) (ys : List ℕ) → Chosen ([] ∷ supplies) e ys → bought (placed e ys) ≤ most_of order → HasFor table e ys
+      has [] ys chosen fit = elim chosen [ ]
+      has (s ∷ e) [] chosen fit = elim chosen [ ]
       has (s ∷ e) (y ∷ ys) (m, l, rest) fit = absurd (Memᴰ.not-nil m)
 
   covers_more : {table after : List ℕ} (s : Segment) (ss : List Segment) → s.start.0 ≤ s.end.0 → Covers order prices table (at + 1) supplies
@@ -102,6 +104,8 @@ module _ (order : Order) (at : ℕ) (prices : Prices) (supplies : List (List Seg
   covers_more {table} {after} s ss rising others so_far next = record { has = has }
     where
       has : (e : List Segment) (ys : List ℕ) → Chosen ((s ∷ ss) ∷ supplies) e ys → bought (placed e ys) ≤ most_of order → HasFor after e ys
+      has [] ys chosen fit = elim chosen [ ]
+      has (t ∷ e) [] chosen fit = elim chosen [ ]
       has (t ∷ e) (y ∷ ys) (here p, l, rest) fit =
           let left = has_all (length supplies) (others.has e ys rest (omega arith)) in
           let within : y ≤ width s = rw p at l in
