@@ -1,3 +1,1 @@
 pub mod Answers
-mod Whole
-mod Held

@@ -30,7 +30,8 @@ fn refused(rule: Rule, place: u64) -> BookRead
 pub fn read(text: &[u8]) -> BookRead
     ensures { result ≡ read_of text.now }
 {
-    if 4_096 < text.len() {
+    let too_long = 4_096 < text.len();
+    if too_long {
         return refused(Rule::TextLength, 4_096);
     }
     let parsed = reading::book(text);
@@ -38,7 +39,8 @@ pub fn read(text: &[u8]) -> BookRead
     if next.stopped {
         return refused(Rule::Shape, next.at as u64);
     }
-    if next.at < text.len() {
+    let goes_on = next.at < text.len();
+    if goes_on {
         return refused(Rule::Shape, next.at as u64);
     }
     let book = parsed.book;

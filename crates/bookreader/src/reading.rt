@@ -1,6 +1,4 @@
-// The text that is being read, and the place where reading stands. A struct that holds a reference is outside the prover's borrow rules,
-// so each function here is proved by hand: they are few and have no branch, and those that parse leave it to a function over the slice
-// and the place.
+// The text that is being read, and the place where reading stands. What parses is left to functions over the slice and the place.
 ghost use Rattle.std.specs.Prelude.{◌≡◌, ◌≤◌, length};
 ghost use Rattle.booklines.specs.Parses.{ParsesLines};
 ghost use Rattle.bookreader.specs.Parses.{start, ParsesBook};
@@ -35,7 +33,7 @@ fn lines<'a>(r: Reader<'a>) -> ParsedBook
     booklines::lines(r.text, r.next)
 }
 
-// A whole text. Its parameter is plain, so whoever calls it needs no proof by hand.
+// A whole text.
 pub fn book(text: &[u8]) -> ParsedBook
     ensures { ParsesBook text.now result.book result.next }
 {
