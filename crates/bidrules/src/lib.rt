@@ -11,6 +11,7 @@ use segmentrules::Test;
 
 // The first rule that a bid breaks, if it breaks one. `before` is the bidder of the bid before, or 0
 // for the first.
+#[tactic(auto, unfolding(book::specs::Rules::bid_verdict, book::specs::Rules::bid_in_range))]
 pub fn check_bid(bid: Bid, line: u64, before: u64) -> Verdict
     ensures { result ≡ bid_verdict line before (bid_entries bid) }
 {
