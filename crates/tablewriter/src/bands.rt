@@ -10,6 +10,7 @@ use lines::Part;
 use sampling::{Band, Table};
 use words::Word;
 
+#[tactic(auto, using(lines::proofs::Together::together), unfolding(tabletext::specs::TableText::band_text))]
 fn band_line(b: Band) -> [Part; 8]
     ensures { joined part_text result ≡ band_text b }
 {
