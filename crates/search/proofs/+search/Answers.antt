@@ -1,0 +1,90 @@
+-- The best so far is that of the segments tried, each with every choice for the bidders after, of whom there is one fewer; where a segment
+-- is passed over, the search with it would leave the best so far as it is.
+use Rattle.std.proofs.Common.{◌≡◌, ◌+◌, ◌-◌, suc, length, arith}
+use Rattle.lists.proofs.Slices.{length_held}
+use Rattle.search.proofs.Steps.{choosable}
+use Rattle.search.proofs.Turns.{held, accepted, none_tried, all_tried, nothing_left, sound, addable, testable, turn_done, passed_over, completed, went_on}
+use Rattle.search.proofs.+search.Goals as goal
+
+pub returns-then-lost : goal.returns-then-lost
+returns-then-lost t c =
+    let eight : length c.args.book.bids ≡ 8 = search (length_held, c.well_formed) in
+    let yes = c.if-lost.true in
+    nothing_left c.requires eight c.sums_of-sums.ensures c.args.best (c.lost.ensures.wins_ties yes) (c.lost.ensures.nothing_better yes)
+
+pub overflow_add-j : goal.overflow_add-j
+overflow_add-j t c =
+    let eight : length c.args.book.bids ≡ 8 = search (length_held, c.well_formed) in
+    omega (arith, (accepted c.requires eight).count_high)
+
+pub loop-j-init : goal.loop-j-init
+loop-j-init t c =
+    let eight : length c.args.book.bids ≡ 8 = search (length_held, c.well_formed) in
+    none_tried c.requires eight c.args.best
+
+pub segment_of-s-requires : goal.segment_of-s-requires
+segment_of-s-requires t c =
+    let eight : length c.args.book.bids ≡ 8 = search (length_held, c.well_formed) in
+    record { accepted = accepted c.requires eight; within = omega (arith, c.loop-j.invariant.within) }
+
+pub charged-requires : goal.charged-requires
+charged-requires t c =
+    let eight : length c.args.book.bids ≡ 8 = search (length_held, c.well_formed) in
+    let s = c.segment_of-s.ensures in
+    record { sound = sound c.requires eight c.sums_of-sums.ensures _ s.number_in_bounds s.value; capped = c.requires.capped }
+
+pub plus-more-requires : goal.plus-more-requires
+plus-more-requires t c =
+    let eight : length c.args.book.bids ≡ 8 = search (length_held, c.well_formed) in
+    let s = c.segment_of-s.ensures in
+    addable c.requires eight c.sums_of-sums.ensures _ s.number_in_bounds s.value c.charged.ensures
+
+pub hopeless-requires : goal.hopeless-requires
+hopeless-requires t c =
+    let eight : length c.args.book.bids ≡ 8 = search (length_held, c.well_formed) in
+    let s = c.segment_of-s.ensures in
+    testable c.requires eight c.sums_of-sums.ensures _ s.number_in_bounds s.value c.charged.ensures c.plus-more.ensures
+
+pub choose-next-requires : goal.choose-next-requires
+choose-next-requires t c =
+    let eight : length c.args.book.bids ≡ 8 = search (length_held, c.well_formed) in
+    let s = c.segment_of-s.ensures in
+    choosable c.requires.choice_of c.requires.further (held c.requires eight) _ _ s.number_in_bounds s.value
+
+pub loop-j-preserved-then-left-eq1 : goal.loop-j-preserved-then-left-eq1
+loop-j-preserved-then-left-eq1 t c =
+    let eight : length c.args.book.bids ≡ 8 = search (length_held, c.well_formed) in
+    let s = c.segment_of-s.ensures in
+    let next = c.choose-next.ensures in
+    let so_far = c.loop-j.so_far in
+    let turn : c.loop-j.j ≡ suc (c.loop-j.j - 1) = omega arith in
+    let last : c.args.c.count + 1 ≡ c.args.book.count = omega (arith, c.requires.further) in
+    let found_next = completed c.requires eight c.sums_of-sums.ensures _ s.number_in_bounds s.value c.charged.ensures c.plus-more.ensures
+    c.choose-next.result next.count_value next.result_value so_far c.leaf-so_far.result last c.leaf-so_far.ensures in
+    turn_done c.requires eight c.sums_of-sums.ensures _ s.number_in_bounds s.value _ _ turn c.loop-j.invariant found_next
+
+pub loop-j-preserved-else-left-eq1 : goal.loop-j-preserved-else-left-eq1
+loop-j-preserved-else-left-eq1 t c =
+    let eight : length c.args.book.bids ≡ 8 = search (length_held, c.well_formed) in
+    let s = c.segment_of-s.ensures in
+    let next = c.choose-next.ensures in
+    let so_far = c.loop-j.so_far in
+    let turn : c.loop-j.j ≡ suc (c.loop-j.j - 1) = omega arith in
+    let found_next = went_on c.requires eight c.sums_of-sums.ensures _ s.number_in_bounds s.value c.charged.ensures c.plus-more.ensures
+    c.choose-next.result next.count_value next.result_value so_far c.search-so_far.result c.search-so_far.ensures in
+    turn_done c.requires eight c.sums_of-sums.ensures _ s.number_in_bounds s.value _ _ turn c.loop-j.invariant found_next
+
+pub loop-j-preserved : goal.loop-j-preserved
+loop-j-preserved t c =
+    let eight : length c.args.book.bids ≡ 8 = search (length_held, c.well_formed) in
+    let s = c.segment_of-s.ensures in
+    let so_far = c.loop-j.so_far in
+    let turn : c.loop-j.j ≡ suc (c.loop-j.j - 1) = omega arith in
+    let found_next = passed_over c.requires eight c.sums_of-sums.ensures _ s.number_in_bounds s.value c.charged.ensures c.plus-more.ensures
+    so_far (c.hopeless.ensures c.if-not-hopeless.false) in
+    turn_done c.requires eight c.sums_of-sums.ensures _ s.number_in_bounds s.value _ _ turn c.loop-j.invariant found_next
+
+pub returns : goal.returns
+returns t c =
+    let eight : length c.args.book.bids ≡ 8 = search (length_held, c.well_formed) in
+    all_tried c.requires eight c.args.best c.loop-j.j c.loop-j.so_far (omega arith) c.loop-j.invariant
