@@ -28,7 +28,8 @@ fn refused(rule: Rule, place: u64) -> TableRead
 pub fn read(text: &[u8]) -> TableRead
     ensures { result ≡ read_table_of text.now }
 {
-    if 4_096 < text.len() {
+    let too_long = 4_096 < text.len();
+    if too_long {
         return refused(Rule::TextLength, 4_096);
     }
     let start = Cursor {
@@ -40,7 +41,8 @@ pub fn read(text: &[u8]) -> TableRead
     if next.stopped {
         return refused(Rule::Shape, next.at as u64);
     }
-    if next.at < text.len() {
+    let goes_on = next.at < text.len();
+    if goes_on {
         return refused(Rule::Shape, next.at as u64);
     }
     let table = parsed.table;
