@@ -13,6 +13,7 @@ use book::{Bid, Book, Segment};
 use lines::Part;
 use words::Word;
 
+#[tactic(auto, using(lines::proofs::Together::together), unfolding(booktext::specs::BookText::segment_text))]
 fn segment_line(s: Segment) -> [Part; 8]
     ensures { joined part_text result ≡ segment_text s }
 {
@@ -46,6 +47,7 @@ fn put_segments(out: &mut [u8], at: usize, bid: Bid) -> usize
 }
 
 // What stands before the segments of a bid.
+#[tactic(auto, using(lines::proofs::Together::together), unfolding(booktext::specs::BookText::bid_head))]
 fn bid_head(bid: Bid) -> [Part; 8]
     ensures { joined part_text result ≡ bid_head (bid_entries bid) }
 {
@@ -87,6 +89,7 @@ fn put_bids(out: &mut [u8], at: usize, book: Book) -> usize
 }
 
 // The line of a book that stands before its bids.
+#[tactic(auto, using(lines::proofs::Together::together), unfolding(booktext::specs::BookText::book_head))]
 fn book_head(book: Book) -> [Part; 8]
     ensures { joined part_text result ≡ book_head (book_entries book) }
 {
