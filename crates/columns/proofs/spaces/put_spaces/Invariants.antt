@@ -1,4 +1,3 @@
--- A turn puts one space more right after those before it, so that the place is their number.
 use Rattle.std.proofs.Common.{◌-◌, ◌≤◌}
 use lib.ListN.{replicate}
 use Rattle.printer.specs.Written.{Put}
