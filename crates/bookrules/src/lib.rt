@@ -11,6 +11,7 @@ use book::{Book, Order};
 use refusal::{Rule, Verdict};
 
 // Rule 5, of an order.
+#[tactic(auto, unfolding(book::specs::Rules::order_in_range))]
 fn order_in_range(order: Order) -> bool
     ensures { result ≡ order_in_range order }
 {
@@ -21,6 +22,7 @@ fn order_in_range(order: Order) -> bool
 }
 
 // Accepts a record, or names its first fault with its line.
+#[tactic(auto, unfolding(book::specs::Rules::book_verdict))]
 pub fn check(book: Book) -> Verdict
     ensures { result ≡ book_verdict (book_entries book) }
 {
