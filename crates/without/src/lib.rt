@@ -10,6 +10,7 @@ use book::Book;
 use comparison::MaybeDivision;
 
 // The book less the bid with this index.
+#[tactic(auto, using(crate::proofs::Less::moved_all))]
 fn book_without(book: Book, at: usize) -> Book
     requires { OneOf book.count at }
     ensures { book_entries result ≡ book_without at (book_entries book) }
@@ -27,6 +28,7 @@ fn book_without(book: Book, at: usize) -> Book
 }
 
 // The total that clearing gives for the bids left: `Nothing` only where they have no division.
+#[tactic(auto, using(crate::proofs::Found::total_nothing, crate::proofs::Found::total_amount))]
 fn total_without(book: Book, at: usize) -> Total
     requires { BidOf (book_entries book) at }
     ensures { result ≡ total_without (book_entries book) at }
@@ -46,7 +48,8 @@ pub fn total_beside(book: Book, at: usize, award: MaybeDivision) -> Total
     ensures { result ≡ total_without (book_entries book) at }
 {
     let quantity = award.quantities[at];
-    if quantity.0 == 0 {
+    let sells_nothing = quantity.0 == 0;
+    if sells_nothing {
         let cost = award.cost;
         return Total::Amount(cost);
     }
