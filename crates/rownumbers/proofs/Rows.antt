@@ -23,13 +23,15 @@ numbers_size (row ∷ rows) = omega (arith, length-append (row_numbers row) (joi
 rows_size : (rows : List Row) (i : ℕ) → i ≤ length rows → length (joined row_numbers (take i rows)) ≡ 7 * i
 rows_size rows i h = numbers_size (take i rows) ∙ ap (λ (n : ℕ). 7 * n) (length-take-le i rows h)
 
--- a turn puts the row at the index, of n rows that there is room for
-pub next_row : (out : List ℕ) (rows : List Row) (i n : ℕ) (d : Row) (mid exit : List ℕ) → i < n → n ≤ length rows → 7 * n ≤ length out
+-- a turn puts the numbers of the row at the index, of n rows that there is room for, at their place
+pub next_row : (out : List ℕ) (rows : List Row) (i n : ℕ) (d : Row) (mid exit : List ℕ) (p : ℕ) (numbers : List ℕ)
+    → i < n → n ≤ length rows → 7 * n ≤ length out
     → mid ≡ written out 0 (joined row_numbers (take i rows))
-    → exit ≡ written mid (7 * i) (row_numbers (get_or rows i d))
+    → exit ≡ written mid p numbers → numbers ≡ row_numbers (get_or rows i d) → p ≡ 7 * i
     → exit ≡ written out 0 (joined row_numbers (take (i + 1) rows))
-next_row out rows i n d mid exit h k enough before this =
+next_row out rows i n d mid exit p numbers h k enough before this row at =
     let place : 7 * i ≡ 0 + length (joined row_numbers (take i rows)) = omega (arith, rows_size rows i (omega arith)) in
     let end : 7 * i + 7 ≡ 7 * i + length (row_numbers (get_or rows i d)) = omega (arith, row_size (get_or rows i d)) in
     let fits : 0 + length (joined row_numbers (take n rows)) ≤ length out = omega (arith, rows_size rows n k) in
-    (wrote_next out 0 row_numbers rows i n d mid (7 * i) exit (7 * i + 7) h k fits (place, before) (end, this)).1
+    let put : exit ≡ written mid (7 * i) (row_numbers (get_or rows i d)) = cc in
+    (wrote_next out 0 row_numbers rows i n d mid (7 * i) exit (7 * i + 7) h k fits (place, before) (end, put)).1

@@ -25,6 +25,7 @@ fn amount_of(total: Total) -> u64
     }
 }
 
+#[tactic(auto, unfolding(crate::specs::RowNumbers::row_numbers))]
 fn row_numbers(row: Row) -> [u64; 7]
     ensures { result ≡ row_numbers row }
 {
