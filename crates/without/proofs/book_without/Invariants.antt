@@ -1,3 +1,4 @@
+-- The bids after the one that goes have been moved a place forward.
 use Rattle.std.proofs.Common.{◌-◌}
 use Rattle.without.proofs.Less.{Moved}
 use Rattle.without.proofs.book_without.Given as goal
