@@ -12,7 +12,7 @@ pub overflow_add-starts : goal.overflow_add-starts
 overflow_add-starts c = omega (arith, starts_high c.requires.choice, c.requires.segment.order, c.requires.segment.end_high)
 
 pub overflow_add-ends : goal.overflow_add-ends
-overflow_add-ends c = omega (arith, ends_high c.requires.choice, c.requires.segment.end_high)
+overflow_add-ends c = omega (arith, ends_high c.requires.choice, c.requires.segment.order, c.requires.segment.end_high)
 
 pub returns-clause-result_value : goal.returns-clause-result_value
 returns-clause-result_value c = chosen_more c.args.c c.args.s c.requires.not_full (held (goal.at.returns-clause-result_value c).Start)
