@@ -76,12 +76,16 @@ module _ {book : Book} {prices : Prices} {table : List ℕ} {c : Choice} {charge
       each_all (try book c) (next_segments book c) (found book.count best) j e (found book.count so_far) t.best_is
       ∙ sym (bidders_next book.bids book.count held book.order c.count (chosen c) (found book.count best) asked.further)
 
+  pub testable : {sums : Sums} → UpTo 8 sums → Testable book.count prices table (c.count + 1) sums
+  testable small =
+      record { few = asked.choice_of.searchable.few; within = omega (arith, asked.further); capped = asked.capped; graded = asked.surveyed.graded; small = small }
+
   -- The sums that the choice carries.
   module _ {sums : Sums} (carried : sums ≡ sums_of c charged) where
     pub sums_now : SumsOf book.order prices (chosen c) sums
     sums_now = subst (SumsOf book.order prices (chosen c)) (sym carried) (sums_carried book.order prices c charged asked.choice_of.choice asked.charges_of)
 
-    small_before : UpTo 8 sums
+    pub small_before : UpTo 8 sums
     small_before = small_sums book.order prices c sums asked.choice_of.choice asked.capped sums_now
 
     -- there is nothing better from the choice on
@@ -125,14 +129,8 @@ module _ {book : Book} {prices : Prices} {table : List ℕ} {c : Choice} {charge
             let same = together ∙ ap (sums_with sums) added in
             subst (SumsOf book.order prices (s ∷ chosen c)) (sym same) (sums_next book.order prices s (chosen c) sums sums_now)
 
-        pub testable : Testable book.count prices table (c.count + 1) more
-        testable = record {
-          few = asked.choice_of.searchable.few;
-          within = omega (arith, asked.further);
-          capped = asked.capped;
-          graded = asked.surveyed.graded;
-          small = sums_up_to book.order prices 8 _ more sound_next asked.capped (omega (arith, length_next, few)) sums_more;
-        }
+        pub small_with : UpTo 8 more
+        small_with = sums_up_to book.order prices 8 _ more sound_next asked.capped (omega (arith, length_next, few)) sums_more
 
         -- there is nothing better with this segment
         pub passed_over : (best : MaybeDivision) → NothingBetter book.order book.count prices table (c.count + 1) more false best

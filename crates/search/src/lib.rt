@@ -103,7 +103,8 @@ fn search(
         let more = charges::plus(sums, charges::charged(s, order, prices));
         if !hopeless::hopeless(table, at + 1, order, n, prices, more, false, so_far) {
             let next = choicerecord::choose(c, s);
-            if left == 1 {
+            let last = left == 1;
+            if last {
                 so_far = leaf(order, next, so_far);
             } else {
                 so_far = search(book, table, prices, next, charges::charges_in(more), so_far);

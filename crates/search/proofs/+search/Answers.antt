@@ -1,9 +1,9 @@
 -- The best so far is that of the segments tried, each with every choice for the bidders after, of whom there is one fewer; where a segment
 -- is passed over, the search with it would leave the best so far as it is.
-use Rattle.std.proofs.Common.{◌≡◌, ◌+◌, ◌-◌, suc, length, arith}
+use Rattle.std.proofs.Common.{◌≡◌, ◌+◌, length, arith}
 use Rattle.lists.proofs.Slices.{length_held}
 use Rattle.search.proofs.Steps.{choosable}
-use Rattle.search.proofs.Turns.{held, accepted, none_tried, all_tried, nothing_left, sound, addable, testable, turn_done, passed_over, completed, went_on}
+use Rattle.search.proofs.Turns.{held, accepted, none_tried, all_tried, nothing_left, sound, small_before, small_with, addable, testable, turn_done, passed_over, completed, went_on}
 use Rattle.search.proofs.+search.Goals as goal
 
 pub returns-then-lost : goal.returns-then-lost
@@ -39,11 +39,14 @@ plus-more-requires t c =
     let s = c.segment_of-s.ensures in
     addable c.requires eight c.sums_of-sums.ensures _ s.number_in_bounds s.value c.charged.ensures
 
+-- shown of the sums before too, so that the edit that judges by these is refused for what the test then tells
 pub hopeless-requires : goal.hopeless-requires
 hopeless-requires t c =
     let eight : length c.args.book.bids ≡ 8 = search (length_held, c.well_formed) in
     let s = c.segment_of-s.ensures in
-    testable c.requires eight c.sums_of-sums.ensures _ s.number_in_bounds s.value c.charged.ensures c.plus-more.ensures
+    let before = small_before c.requires eight c.sums_of-sums.ensures in
+    let with = small_with c.requires eight c.sums_of-sums.ensures _ s.number_in_bounds s.value c.charged.ensures c.plus-more.ensures in
+    testable c.requires eight (search (before, with))
 
 pub choose-next-requires : goal.choose-next-requires
 choose-next-requires t c =
@@ -51,38 +54,35 @@ choose-next-requires t c =
     let s = c.segment_of-s.ensures in
     choosable c.requires.choice_of c.requires.further (held c.requires eight) _ _ s.number_in_bounds s.value
 
-pub loop-j-preserved-then-left-eq1 : goal.loop-j-preserved-then-left-eq1
-loop-j-preserved-then-left-eq1 t c =
+pub loop-j-preserved-then-last : goal.loop-j-preserved-then-last
+loop-j-preserved-then-last t c =
     let eight : length c.args.book.bids ≡ 8 = search (length_held, c.well_formed) in
     let s = c.segment_of-s.ensures in
     let next = c.choose-next.ensures in
     let so_far = c.loop-j.so_far in
-    let turn : c.loop-j.j ≡ suc (c.loop-j.j - 1) = omega arith in
     let last : c.args.c.count + 1 ≡ c.args.book.count = omega (arith, c.requires.further) in
     let found_next = completed c.requires eight c.sums_of-sums.ensures _ s.number_in_bounds s.value c.charged.ensures c.plus-more.ensures
     c.choose-next.result next.count_value next.result_value so_far c.leaf-so_far.result last c.leaf-so_far.ensures in
-    turn_done c.requires eight c.sums_of-sums.ensures _ s.number_in_bounds s.value _ _ turn c.loop-j.invariant found_next
+    turn_done c.requires eight c.sums_of-sums.ensures _ s.number_in_bounds s.value c.loop-j.j _ (omega arith) c.loop-j.invariant found_next
 
-pub loop-j-preserved-else-left-eq1 : goal.loop-j-preserved-else-left-eq1
-loop-j-preserved-else-left-eq1 t c =
+pub loop-j-preserved-else-last : goal.loop-j-preserved-else-last
+loop-j-preserved-else-last t c =
     let eight : length c.args.book.bids ≡ 8 = search (length_held, c.well_formed) in
     let s = c.segment_of-s.ensures in
     let next = c.choose-next.ensures in
     let so_far = c.loop-j.so_far in
-    let turn : c.loop-j.j ≡ suc (c.loop-j.j - 1) = omega arith in
     let found_next = went_on c.requires eight c.sums_of-sums.ensures _ s.number_in_bounds s.value c.charged.ensures c.plus-more.ensures
     c.choose-next.result next.count_value next.result_value so_far c.search-so_far.result c.search-so_far.ensures in
-    turn_done c.requires eight c.sums_of-sums.ensures _ s.number_in_bounds s.value _ _ turn c.loop-j.invariant found_next
+    turn_done c.requires eight c.sums_of-sums.ensures _ s.number_in_bounds s.value c.loop-j.j _ (omega arith) c.loop-j.invariant found_next
 
 pub loop-j-preserved : goal.loop-j-preserved
 loop-j-preserved t c =
     let eight : length c.args.book.bids ≡ 8 = search (length_held, c.well_formed) in
     let s = c.segment_of-s.ensures in
     let so_far = c.loop-j.so_far in
-    let turn : c.loop-j.j ≡ suc (c.loop-j.j - 1) = omega arith in
     let found_next = passed_over c.requires eight c.sums_of-sums.ensures _ s.number_in_bounds s.value c.charged.ensures c.plus-more.ensures
     so_far (c.hopeless.ensures c.if-not-hopeless.false) in
-    turn_done c.requires eight c.sums_of-sums.ensures _ s.number_in_bounds s.value _ _ turn c.loop-j.invariant found_next
+    turn_done c.requires eight c.sums_of-sums.ensures _ s.number_in_bounds s.value c.loop-j.j _ (omega arith) c.loop-j.invariant found_next
 
 pub returns : goal.returns
 returns t c =

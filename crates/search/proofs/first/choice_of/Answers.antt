@@ -20,7 +20,7 @@ pub with_number-c-requires : goal.with_number-c-requires
 with_number-c-requires c =
     let b = c.args.book in
     let i = c.loop-i in
-    has_bidder b c.requires (held b c.requires (search (length_held, c.well_formed))) i.invariant i.i c.loop-i-test.true i.i c.loop-i-test.true
+    has_bidder b c.requires (held b c.requires (search (length_held, c.well_formed))) i.invariant i.i c.loop-i-test.true _ (omega arith)
 
 pub loop-i-preserved : goal.loop-i-preserved
 loop-i-preserved c =
