@@ -23,6 +23,8 @@ SameOffers ss ss' = (r : ℕ) → offers ss' r ≡ offers ss r
 same_allocations : (supplies supplies' : List (List Segment)) → Pairwise SameOffers supplies supplies' → (rs : List ℕ)
     → Allocation supplies rs ↔ Allocation supplies' rs
 same_allocations [] [] same rs = (λ a. a, λ a. a)
+same_allocations [] (ss' ∷ supplies') same rs = elim same [ ]
+same_allocations (ss ∷ supplies) [] same rs = elim same [ ]
 same_allocations (ss ∷ supplies) (ss' ∷ supplies') same [] = (λ a. a, λ a. a)
 same_allocations (ss ∷ supplies) (ss' ∷ supplies') same (r ∷ rs) =
     let (to, from) = same_allocations supplies supplies' same.1 rs in
@@ -39,6 +41,9 @@ pub costs_no_more : (supplies supplies' : List (List Segment)) → Pairwise (Com
     → Allocation supplies rs → cost_of supplies rs ≤ℤ cost_of supplies' rs
 unfolding cost_of
 costs_no_more [] [] c rs a = ≤ℤ_refl _
+costs_no_more [] (ss' ∷ supplies') c rs a = elim c [ ]
+costs_no_more (ss ∷ supplies) [] c rs a = elim c [ ]
+costs_no_more (ss ∷ supplies) (ss' ∷ supplies') c [] a = elim a [ ]
 costs_no_more (ss ∷ supplies) (ss' ∷ supplies') c (r ∷ rs) a =
     most_sum (price_at ss r) (price_at ss' r) (cost_of supplies rs) (cost_of supplies' rs) (c.0.price r a.0) (costs_no_more supplies supplies' c.1 rs a.1)
 
@@ -49,6 +54,12 @@ unfolding cost_of
 costs_less cents zero (ss ∷ supplies) (ss' ∷ supplies') c (r ∷ rs) a =
     ap₂ ◌+ℤ◌ (c.0.price r a.0) (ap (λ (l : List (List Segment)). cost_of l rs) c.1)
     ∙ last_two (price_at ss' r) (pos (cents * r)) (cost_of supplies' rs)
+costs_less cents zero [] _ c rs a = elim c [ ]
+costs_less cents zero (ss ∷ supplies) [] c rs a = elim c [ ]
+costs_less cents zero (ss ∷ supplies) (ss' ∷ supplies') c [] a = elim a [ ]
+costs_less cents (suc i) [] _ c rs a = elim c [ ]
+costs_less cents (suc i) (ss ∷ supplies) [] c rs a = elim c [ ]
+costs_less cents (suc i) (ss ∷ supplies) (ss' ∷ supplies') c [] a = elim a [ ]
 costs_less cents (suc i) (ss ∷ supplies) (ss' ∷ supplies') c (r ∷ rs) a =
     ap₂ ◌+ℤ◌ (ap (λ (l : List Segment). price_at l r) c.0) (costs_less cents i supplies supplies' c.1 rs a.1)
     ∙ sym (+ℤ_assoc (price_at ss' r) (cost_of supplies' rs) (pos (cents * get_or rs i 0)))
