@@ -1,4 +1,5 @@
 -- A word, the numbers and a word, read one after the other (`reads_framed`). Assumes nothing.
+use Rattle.std.proofs.Common.{rules}
 use Rattle.forms.specs.Spaced.{numbers_in}
 use Rattle.forms.proofs.Framed.{reads_framed}
 use Rattle.forms.proofs.Spaced.{numbers_laws}
@@ -12,4 +13,4 @@ returns-clause-scans_line c =
     let n = c.spaced-parsed in
     reads_framed a.start.now (numbers_laws a.further) a.close.now a.text.now a.from.at a.from.stopped
     w.result.at w.result.stopped (numbers_in a.further (values_of n.result)) n.result.next.at n.result.next.stopped
-    c.word-next.result.at c.word-next.result.stopped w.ensures.scans n.ensures.scans c.word-next.ensures.scans
+    c.word-next.result.at c.word-next.result.stopped w.ensures.scans n.ensures.scans (search rules)
