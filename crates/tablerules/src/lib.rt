@@ -11,6 +11,7 @@ use refusal::{Rule, Verdict};
 use sampling::Table;
 
 // Accepts a record, or names the first line that breaks a rule.
+#[tactic(auto, unfolding(sampling::specs::Rules::table_verdict))]
 pub fn check(table: Table) -> Verdict
     ensures { result ≡ table_verdict (table_entries table) }
 {

@@ -8,6 +8,7 @@ use refusal::{Rule, Verdict};
 use sampling::{Band, Table};
 
 // Whether a band may stand after the band `before`.
+#[tactic(auto, unfolding(sampling::specs::Rules::band_keeps))]
 fn keeps(before: Band, b: Band) -> bool
     ensures { result ≡ band_keeps before b }
 {
