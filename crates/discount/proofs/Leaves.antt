@@ -1,7 +1,6 @@
 -- The discounts that leave an accepted book are those from 0 to the largest that can be taken off each segment of the bid. Assumes nothing.
 use Prim.Native.Nat.{ℕ}
 use mathlib.Core.Bool.{Bool, true, false, ◌&&◌, and-true, false≢true}
-use mathlib.Core.List.{List, [], ◌∷◌, map}
 use mathlib.Core.Path.{◌≡◌, refl, sym, ap, ap₂, ◌∙◌}
 use lib.Dec.{leb}
 use lib.ListN.{get_or}
@@ -18,7 +17,7 @@ use Rattle.book.specs.Entries.{BidEntries, BookEntries}
 use Rattle.book.specs.Rules.{start_not_negative, book_verdict}
 use Rattle.discount.specs.Discount.{segment_off, is_of, has_cents, book_off, leaves_accepted}
 use Rattle.discount.specs.Named.{Named}
-use Rattle.discount.specs.Asked.{takes, Largest}
+use Rattle.discount.specs.Asked.{Largest}
 use Rattle.discount.proofs.Bidder.{those_named}
 use Rattle.discount.proofs.Verdict.{kept_off, verdict_off}
 

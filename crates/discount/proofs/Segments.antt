@@ -1,9 +1,9 @@
 -- The largest discount of a bid, along the loop through its segments. Assumes nothing.
 use Prim.Native.Nat.{ℕ, ◌+◌, ◌≤◌, ◌<◌, min}
 use native.Mathlib.Omega.{arith}
-use mathlib.Core.Bool.{Bool, true, false, ◌&&◌, and-true}
-use mathlib.Core.List.{List, [], ◌∷◌}
-use mathlib.Core.Path.{◌≡◌, refl, sym, ap, ◌∙◌}
+use mathlib.Core.Bool.{Bool, true, false, ◌&&◌}
+use mathlib.Core.List.{List}
+use mathlib.Core.Path.{◌≡◌, refl, ap, ◌∙◌}
 use borrow.Author.Tests.{leb-true, le-leb}
 use lib.Dec.{leb}
 use lib.ListN.{length, get_or}
@@ -11,7 +11,7 @@ use lib.Seq.{slice}
 use Rattle.lists.specs.Every.{every}
 use Rattle.lists.proofs.Tests.{both_left, both_hold}
 use Rattle.lists.proofs.Slices.{slice_next}
-use Rattle.lists.proofs.Everywhere.{every_at, every_done}
+use Rattle.lists.proofs.Everywhere.{every_at}
 use Rattle.book.specs.declared.Segment.{Segment}
 use Rattle.book.specs.Rules.{segment_in_range, start_not_negative}
 use Rattle.book.proofs.Records.{no_segment}

@@ -4,16 +4,16 @@ use native.Mathlib.Nat.{le-div_iff_mul-le}
 use native.Mathlib.Omega.{arith}
 use mathlib.Core.Bool.{Bool, true, false, cond, ◌&&◌, false≢true}
 use mathlib.Core.Path.{◌≡◌, refl, sym, ap, ◌∙◌}
-use borrow.Author.Tests.{leb-true, le-leb, ltb-true, ltb-false}
+use borrow.Author.Tests.{leb-true, le-leb, ltb-false}
 use lib.Dec.{leb, ltb}
 use lib.IntN.{ℤ, pos, negsuc, nat_abs, ◌+ℤ◌, +ℤ_assoc, +ℤ_comm}
 use lib.Signed.{le_z}
 use Rattle.money.specs.Price.{price_of}
 use Rattle.book.specs.declared.Segment.{Segment}
 use Rattle.book.specs.Rules.{price_on, start_not_negative}
-use Rattle.book.proofs.InRange.{InRange, in_range}
+use Rattle.book.proofs.InRange.{in_range}
 use Rattle.discount.specs.Discount.{segment_off}
-use Rattle.discount.specs.Asked.{takes, KeepsRules, MostOff}
+use Rattle.discount.specs.Asked.{KeepsRules, MostOff}
 use Rattle.discount.proofs.Least.{together, at_most_both}
 
 -- a price from 0 on

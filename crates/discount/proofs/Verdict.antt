@@ -1,14 +1,13 @@
 -- A discount on a bid of an accepted book is refused by rule 8 alone, in the bid's line. Assumes nothing.
-use Prim.Native.Nat.{ℕ, zero, suc, ◌+◌, ◌-◌, ◌≤◌}
+use Prim.Native.Nat.{ℕ, zero, suc, ◌+◌, ◌-◌}
 use native.Mathlib.Omega.{arith}
-use mathlib.Core.Bool.{Bool, true, false, cond, ◌&&◌}
+use mathlib.Core.Bool.{Bool, true, ◌&&◌}
 use mathlib.Core.List.{List, [], ◌∷◌, map}
-use mathlib.Core.Path.{◌≡◌, refl, sym, ap, ◌∙◌}
-use borrow.Author.Tests.{le-leb, lt-ltb}
+use mathlib.Core.Path.{◌≡◌, refl, ap, ◌∙◌}
+use borrow.Author.Tests.{le-leb}
 use lib.Dec.{leb, ltb}
 use lib.IntN.{pos, neg_ℤ}
 use lib.ListN.{get_or}
-use Rattle.lists.specs.All.{All}
 use Rattle.lists.specs.Every.{every}
 use Rattle.lists.proofs.All.{all_tested, all_from}
 use Rattle.lists.proofs.Tests.{both_left, both_right, both_hold}
