@@ -21,6 +21,7 @@ pub struct BookSizes {
 }
 
 // The figures of any record, whether or not its demand can be covered.
+#[tactic(auto, unfolding(crate::specs::Sizes::sizes_of))]
 pub fn sizes(book: Book) -> BookSizes
     ensures { result ≡ sizes_of (book_entries book) }
 {
@@ -64,6 +65,7 @@ fn choices(book: Book) -> u64
 }
 
 // How long the sheet of so many bids is at most.
+#[tactic(auto, unfolding(crate::specs::Sizes::sheet_limit))]
 fn sheet_limit(bids: usize) -> u64
     requires { bids ≤ 8 }
     ensures { result ≡ sheet_limit bids }
