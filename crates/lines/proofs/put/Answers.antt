@@ -14,4 +14,4 @@ loop-i-preserved c =
     let p = c.put_part-next in
     let within : at.i < length c.args.line = search rules in
     let text = put_next c.args.out.now c.args.at part_text c.args.line at.i Nothing at.out at.next p.new.out p.result in
-    (omega arith, omega (arith, p.ensures.upper_bound), text within at.auto.out at.invariant.2 p.ensures.put)
+    (omega arith, omega (arith, p.ensures.upper_bound), text within at.auto.out at.invariant.2 (search rules))
