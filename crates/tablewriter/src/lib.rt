@@ -21,7 +21,8 @@ pub fn write(table: Table, out: &mut [u8]) -> TextWritten
     }
     let mut nowhere = [0u8; 1];
     let needed = bands::put_bands(&mut nowhere, table);
-    if out.len() < needed {
+    let short = out.len() < needed;
+    if short {
         return output::too_short(needed);
     }
     bands::put_bands(out, table);

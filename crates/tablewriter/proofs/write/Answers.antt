@@ -23,12 +23,12 @@ returns-in-Refused c =
 pub put_bands-needed-requires : goal.put_bands-needed-requires
 put_bands-needed-requires c = count_most (table_entries c.args.table) (sym c.in_default.ensures)
 
-pub returns-then-out-needed : goal.returns-then-out-needed
-returns-then-out-needed c =
+pub returns-then-short : goal.returns-then-short
+returns-then-short c =
     let t = c.args.table in
     let size = c.put_bands-needed in
     let r = too_short (verdict_of t) (table_text_of t) c.args.out.now (sym c.in_default.ensures) size.result
-    (omega (arith, size.ensures.0)) c.too_short.result c.too_short.ensures (omega (arith, c.if-out-needed.true)) in
+    (omega (arith, size.ensures.0)) c.too_short.result c.too_short.ensures (omega arith) in
     record { value = r.0; out_after = r.1 }
 
 pub put_bands-requires : goal.put_bands-requires
@@ -40,6 +40,6 @@ returns c =
     let size = c.put_bands-needed in
     let put = c.put_bands in
     let r = in_full (verdict_of t) (table_text_of t) c.args.out.now (sym c.in_default.ensures) size.result
-    (omega (arith, size.ensures.0)) c.whole.result c.whole.ensures c.if-out-needed.false put.new.out
-    (put.ensures.1 (omega (arith, size.ensures.0, put.ensures.0, c.if-out-needed.false))) in
+    (omega (arith, size.ensures.0)) c.whole.result c.whole.ensures (omega arith) put.new.out
+    (put.ensures.1 (omega (arith, size.ensures.0, put.ensures.0))) in
     record { value = r.0; out_after = r.1 }
