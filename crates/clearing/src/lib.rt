@@ -31,6 +31,7 @@ pub fn refused(verdict: Verdict) -> Clearing
 }
 
 // A row for each bid, from the award.
+#[tactic(auto, using(book::proofs::Accepted::few_bids, book::proofs::Accepted::bid_at_lem, crate::proofs::Made::made_next))]
 fn rows(table: Table, book: Book, award: MaybeDivision) -> [Row; 8]
     requires { BookAward book award }
     ensures { result ≡ padded 8 no_row (rows_from (table_entries table) (book_entries book) 0 (book_entries book).bids (take book.count (blanks_in award.quantities))) }
@@ -51,6 +52,7 @@ fn rows(table: Table, book: Book, award: MaybeDivision) -> [Row; 8]
 
 // Clears any record, sampled by a table: refused by rules 3 to 8 as `bookrules::check` refuses it, by rule 9 where its bids have no
 // division, and else awarded. It is no entry: it does not look whether the table passes.
+#[tactic(auto, using(crate::proofs::Answers::rules_first, search::proofs::Found::searchable, search::proofs::Found::award_some, crate::proofs::Answers::clear_none))]
 pub fn clear_sampled(table: Table, book: Book) -> Clearing
     ensures { result ≡ clear_sampled (table_entries table) (book_entries book) }
 {
@@ -89,6 +91,7 @@ pub fn clear(book: Book) -> Clearing
 }
 
 // Clears any record, sampled by any table: refused by rule 12 as `tablerules::check` refuses the table, then as `clear` refuses the book.
+#[tactic(auto, unfolding(crate::specs::Clearing::clear_by_table))]
 pub fn clear_by_table(table: Table, book: Book) -> Clearing
     ensures { result ≡ clear_by_table (table_entries table) (book_entries book) }
 {
