@@ -27,6 +27,8 @@ passed line (b ∷ bs) (r ∷ rs) e = let (here, (later, _)) = all_passed (_ ∷
 passes : (line : ℕ) (bs : List BidEntries) (rs : List ℕ) → Allocation (supplies_of bs) rs → quantities_verdict line bs rs ≡ Accepted
 unfolding quantities_verdict
 passes line [] [] a = refl
+passes line [] (r ∷ rs) a = elim a [ ]
+passes line (b ∷ bs) [] a = elim a [ ]
 passes line (b ∷ bs) (r ∷ rs) a = rw (a.0, passes (line + 1) bs rs a.1)
 
 -- a yes is of a split that is not refused
