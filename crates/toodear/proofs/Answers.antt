@@ -1,5 +1,5 @@
 -- The answer about a bidder of an accepted book, by what the largest discount that leaves it accepted sells. Assumes nothing.
-use Prim.Native.Nat.{ℕ, ◌≤◌, ◌<◌}
+use Prim.Native.Nat.{ℕ, ◌≤◌}
 use native.Mathlib.Omega.{arith}
 use mathlib.Core.Bool.{Bool, true, false, ◌&&◌, and-false, false≢true}
 use mathlib.Core.Logic.{◌↔◌}

@@ -1,22 +1,20 @@
 -- What sells goes on selling up to the largest discount, so that halving finds the smallest that sells. Assumes nothing.
-use Prim.Native.Nat.{ℕ, ◌≤◌, ◌<◌, ◌^◌}
-use native.Mathlib.Omega.{arith}
-use mathlib.Core.Bool.{Bool, true, false, ◌&&◌, and-false}
-use mathlib.Core.Path.{◌≡◌, refl, sym, ap, ◌∙◌, subst}
+use Prim.Native.Nat.{ℕ, ◌≤◌}
+use mathlib.Core.Bool.{true, and-false}
+use mathlib.Core.Path.{◌≡◌, ◌∙◌, subst}
 use borrow.Author.Tests.{le-leb}
 use lib.Dec.{leb}
 use lib.ListN.{get_or}
 use Rattle.lists.specs.Least.{Least}
 use Rattle.lists.proofs.Tests.{both_hold}
-use Rattle.lists.proofs.Halving.{Rises, Between}
+use Rattle.lists.proofs.Halving.{Rises}
 use Rattle.refusal.specs.declared.Verdict.TheVariants.{Accepted}
 use Rattle.book.specs.declared.Book.{Book}
-use Rattle.book.specs.Entries.{BidEntries, BookEntries, bid_entries, book_entries}
+use Rattle.book.specs.Entries.{BookEntries, bid_entries, book_entries}
 use Rattle.book.specs.Rules.{book_verdict}
 use Rattle.book.proofs.Records.{no_bid}
 use Rattle.discount.specs.Discount.{has_cents, leaves_accepted}
 use Rattle.discount.specs.Named.{Named}
-use Rattle.discount.specs.Asked.{CanTake}
 use Rattle.discount.proofs.Leaves.{leaves_has}
 use Rattle.toodear.specs.TooDear.{sells_with, wins_with}
 use Rattle.toodear.specs.Asked.{Winnable, SmallestOff}
@@ -51,14 +49,6 @@ module _ (book : Book) (at most : ℕ) (winnable : Winnable book at most) where
 
   pub sells_on : Rises (sells_with (book_entries book) bidder) most
   sells_on = rises (book_entries book) bidder at winnable.bid.accepted winnable.bid.named most winnable.leaves
-
-  pub can_take : (cents : ℕ) → cents ≤ most → CanTake book at cents
-  can_take cents h = record {
-    bidder = bidder;
-    accepted = winnable.bid.accepted;
-    named = winnable.bid.named;
-    leaves = up_to_lem (book_entries book) bidder at winnable.bid.accepted winnable.bid.named most winnable.leaves cents h;
-  }
 
   pub smallest_off_lem : (cents : ℕ) → cents ≤ most → Least (sells_with (book_entries book) bidder) cents → SmallestOff book at cents
   smallest_off_lem cents h l other named =

@@ -1,11 +1,11 @@
 -- With a larger discount the divisions are the same, and what a bidder sells does not fall. Assumes nothing.
-use Prim.Native.Nat.{ℕ, zero, suc, ◌+◌, ◌-◌, ◌≤◌, ◌<◌}
+use Prim.Native.Nat.{ℕ, zero, suc, ◌-◌, ◌≤◌, ◌<◌}
 use native.Mathlib.Omega.{arith}
 use mathlib.Core.Bool.{Bool, true, false, cond, false≢true}
 use mathlib.Core.List.{List, [], ◌∷◌, map}
 use mathlib.Core.Logic.{◌↔◌}
 use mathlib.Core.Option.{Option, some, none}
-use mathlib.Core.Path.{◌≡◌, refl, sym, ap, ap₂, ◌∙◌, subst}
+use mathlib.Core.Path.{◌≡◌, refl, sym, ap₂, ◌∙◌, subst}
 use borrow.Author.Tests.{leb-true, ltb-true, lt-ltb}
 use lib.Dec.{leb}
 use lib.ListN.{get_or}
@@ -18,8 +18,7 @@ use Rattle.book.specs.declared.Segment.{Segment}
 use Rattle.book.specs.Entries.{BidEntries, BookEntries}
 use Rattle.supply.specs.Supply.{supply_of, supplies_of}
 use Rattle.supply.proofs.Compared.{ComparedSupply}
-use Rattle.divisions.specs.Award.{Priced, award_of, award_of_book}
-use Rattle.divisions.specs.IsAward.{IsAward}
+use Rattle.divisions.specs.Award.{Priced, award_of_book}
 use Rattle.divisions.proofs.Award.{award_is, no_award_iff}
 use Rattle.pricechanges.specs.Discount.{CheaperSegment, CheaperBid}
 use Rattle.pricechanges.proofs.Prices.{Above, cheaper_supply}
@@ -54,6 +53,7 @@ module _ (low high : ℕ) (h : low ≤ high) where
   bids_cheaper : (bidder : ℕ) (bs : List BidEntries) (i : ℕ) (d : BidEntries) → Named bidder bs i → has_cents high (get_or bs i d) ≡ true
       → ChangedAt i (CheaperBid (high - low)) (bids_off bidder low bs) (bids_off bidder high bs)
   bids_cheaper bidder (b ∷ bs) zero d n has = rw n.0 (bid_cheaper b has, none_off bidder low bs n.1 ∙ sym (none_off bidder high bs n.1))
+  bids_cheaper bidder [] i d n has = elim n [ ]
   bids_cheaper bidder (b ∷ bs) (suc i) d n has = rw n.0 (refl, bids_cheaper bidder bs i d n.1 has)
 
 -- a discount of 0 leaves the book as it is

@@ -1,5 +1,5 @@
 -- What the named bidder sells is the quantity at the index of its bid. Assumes nothing.
-use Prim.Native.Nat.{ℕ, zero, suc, ◌+◌}
+use Prim.Native.Nat.{ℕ, zero, suc}
 use native.Mathlib.Omega.{arith}
 use mathlib.Core.Bool.{Bool, true, false, ◌||◌}
 use mathlib.Core.List.{List, [], ◌∷◌, map}
@@ -24,6 +24,7 @@ module _ (bidder : ℕ) where
   pub sold_at : (bs : List BidEntries) (i : ℕ) (rs : List ℕ) → Named bidder bs i → sold_by bidder bs rs ≡ get_or rs i 0
   unfolding sold_by
   sold_at (b ∷ bs) zero [] n = refl
+  sold_at [] i rs n = elim n [ ]
   sold_at (b ∷ bs) zero (r ∷ rs) n = rw (n.0, sold_none bs rs n.1) (omega arith)
   sold_at (b ∷ bs) (suc i) [] n = refl
   sold_at (b ∷ bs) (suc i) (r ∷ rs) n = rw (n.0, sold_at bs i rs n.1) (omega arith)
@@ -32,6 +33,7 @@ module _ (bidder : ℕ) where
   pub named_in : (bs : List BidEntries) (i : ℕ) → Named bidder bs i → any (is_of bidder) bs ≡ true
   unfolding any
   named_in (b ∷ bs) zero n = rw n.0
+  named_in [] i n = elim n [ ]
   named_in (b ∷ bs) (suc i) n = rw n.0 (named_in bs i n.1)
 
   -- by the records
@@ -43,4 +45,5 @@ module _ (bidder : ℕ) where
 -- one bidder has the bid
 pub one_bidder : (a b : ℕ) (bs : List BidEntries) (i : ℕ) → Named a bs i → Named b bs i → a ≡ b
 one_bidder a b (c ∷ bs) zero n m = sym (eqb-true c.bidder a n.0) ∙ eqb-true c.bidder b m.0
+one_bidder a b [] i n m = elim n [ ]
 one_bidder a b (c ∷ bs) (suc i) n m = one_bidder a b bs i n.1 m.1

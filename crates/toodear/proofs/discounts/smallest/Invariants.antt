@@ -1,0 +1,12 @@
+use Rattle.lists.proofs.Halving.{Between}
+use Rattle.book.specs.Entries.{book_entries}
+use Rattle.toodear.specs.TooDear.{sells_with}
+use Rattle.toodear.specs.Asked.{Winnable}
+use Rattle.toodear.proofs.discounts.smallest.Given as goal
+
+-- for the bidder whose bid has that index
+abbrev pub invariant-loop-low : goal.invariant-loop-low
+invariant-loop-low l = (w : Winnable l.book l.at l.most) → Between (sells_with (book_entries l.book) w.bid.bidder) l.most l.left l.low l.high
+
+abbrev pub decreases-loop-low : goal.decreases-loop-low
+decreases-loop-low l = l.left
