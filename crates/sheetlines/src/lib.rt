@@ -12,6 +12,7 @@ use lines::Part;
 use refusal::Verdict;
 use words::Word;
 
+#[tactic(auto, unfolding(sheettext::specs::Sheet::total_text))]
 fn without_part(total: Total) -> Part
     ensures { part_text result ≡ ascii " (without " ++ total_text total }
 {
@@ -41,6 +42,7 @@ pub fn row_line(row: Row) -> [Part; 8]
 }
 
 // Demand, what is bought, and total price.
+#[tactic(auto, unfolding(sheettext::specs::Sheet::first_text))]
 pub fn first_line(award: Award) -> [Part; 8]
     ensures { joined part_text result ≡ first_text award }
 {
@@ -58,6 +60,7 @@ pub fn first_line(award: Award) -> [Part; 8]
 }
 
 // Number and place.
+#[tactic(auto, unfolding(sheettext::specs::Sheet::refusal_text))]
 pub fn refusal_line(verdict: Verdict) -> [Part; 8]
     ensures { joined part_text result ≡ refusal_text verdict }
 {
