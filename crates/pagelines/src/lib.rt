@@ -12,6 +12,7 @@ use columns::Shown;
 use lines::Part;
 use words::Word;
 
+#[tactic(auto, unfolding(pagetext::specs::Page::page_total))]
 fn without_shown(total: Total) -> Shown
     ensures { shown_text result ≡ page_total total }
 {
@@ -41,6 +42,7 @@ pub fn row_line(row: Row) -> [Part; 8]
 }
 
 // Demand, what is bought, and total price.
+#[tactic(auto, unfolding(pagetext::specs::Page::page_first))]
 pub fn first_line(award: Award) -> [Part; 8]
     ensures { joined part_text result ≡ page_first award }
 {
