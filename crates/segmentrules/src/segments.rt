@@ -32,6 +32,7 @@ fn segment_in_range(s: Segment) -> bool
 
 // Rule 8: the price at the start is not negative. Of a segment that keeps rule 5: there the price is
 // known to fit 64 bits.
+#[tactic(auto, unfolding(book::specs::Rules::start_not_negative))]
 fn start_not_negative(s: Segment) -> bool
     requires { segment_in_range s ≡ true }
     ensures { result ≡ start_not_negative s }

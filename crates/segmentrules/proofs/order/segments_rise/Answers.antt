@@ -13,17 +13,17 @@ held c = let h : length c.args.bid.segments ≡ 6 = search (length_held, c.well_
 pub returns-then-s-before : goal.returns-then-s-before
 returns-then-s-before c =
     let t = (goal.at.returns-then-s-before c).In-loop-i in
-    sym (c.loop-i.invariant.1 ∙ start_not_above c.loop-i.before _ _ _ c.loop-i-test.true (held t) (le-ltb _ _ c.if-s-before.true))
+    sym (c.loop-i.invariant.1 ∙ start_not_above c.loop-i.before _ _ _ c.loop-i-test.true (held t) (le-ltb _ _ (omega arith)))
 
 pub returns-then-s : goal.returns-then-s
 returns-then-s c =
     let t = (goal.at.returns-then-s c).In-loop-i in
-    sym (c.loop-i.invariant.1 ∙ start_above_end c.loop-i.before _ _ _ c.loop-i-test.true (held t) (lt-leb _ _ c.if-s.true))
+    sym (c.loop-i.invariant.1 ∙ start_above_end c.loop-i.before _ _ _ c.loop-i-test.true (held t) (lt-leb _ _ (omega arith)))
 
 pub loop-i-preserved : goal.loop-i-preserved
 loop-i-preserved c =
     let t = (goal.at.loop-i-preserved c).In-loop-i in
-    let next = rises_next c.loop-i.before _ _ _ c.loop-i-test.true (held t) (lt-ltb _ _ c.if-s-before.false) (le-leb _ _ c.if-s.false) in
+    let next = rises_next c.loop-i.before _ _ _ c.loop-i-test.true (held t) (lt-ltb _ _ (omega arith)) (le-leb _ _ (omega arith)) in
     (omega arith, c.loop-i.invariant.1 ∙ next)
 
 pub returns : goal.returns

@@ -1,7 +1,5 @@
 -- The price at the start fits, by rule 5, and 0 is compared with it.
-use Rattle.std.proofs.Common.{ap, ◌∙◌, arith, pos}
-use Rattle.std.specs.Int.Signed.{le_z}
-use Rattle.book.specs.Rules.{start_not_negative}
+use Rattle.std.proofs.Common.{arith}
 use Rattle.book.proofs.InRange.{in_range, price_fits}
 use Rattle.segmentrules.proofs.segments.start_not_negative.Goals as goal
 
@@ -9,7 +7,3 @@ pub price-requires : goal.price-requires
 price-requires c =
     let range = in_range c.args.s c.requires in
     price_fits c.args.s range _ (omega (arith, range.start_high, range.end_high))
-
-pub returns : goal.returns
-unfolding start_not_negative
-returns c = c.at_most.ensures ∙ ap (le_z (pos 0)) c.price.ensures
