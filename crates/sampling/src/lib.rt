@@ -26,6 +26,7 @@ pub struct Table {
 }
 
 // The printed table.
+#[tactic(auto, unfolding(crate::specs::Sampling::printed_bands))]
 pub fn printed() -> Table
     ensures { table_entries result ≡ printed_table }
 {
@@ -54,6 +55,7 @@ pub fn sample(quantity: Blanks) -> Blanks
 }
 
 // The sample by a table: that of the band in which the quantity lies, 0 where it lies in none.
+#[tactic(auto, using(crate::proofs::Scan::zero_samples), unfolding(crate::specs::Sampling::sample_of))]
 pub fn sample_by_table(table: Table, quantity: Blanks) -> Blanks
     ensures { result.0 ≡ sample_of (table_entries table) quantity.0 }
 {

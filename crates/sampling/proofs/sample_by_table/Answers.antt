@@ -2,14 +2,9 @@
 use Rattle.std.proofs.Common.{◌≡◌, List, min, length, get_or, sym, ap, ◌∙◌, arith}
 use Rattle.lists.proofs.Slices.{length_held, take_held}
 use Rattle.sampling.specs.declared.Band.{Band}
-use Rattle.sampling.specs.Entries.{table_entries}
 use Rattle.sampling.specs.Sampling.{band, sample_above, sample_of}
-use Rattle.sampling.proofs.Scan.{scan_next, scan_stop, scan_done, zero_samples}
+use Rattle.sampling.proofs.Scan.{scan_next, scan_stop, scan_done}
 use Rattle.sampling.proofs.sample_by_table.Goals as goal
-
-pub returns-then-q-eq0 : goal.returns-then-q-eq0
-unfolding sample_of
-returns-then-q-eq0 c = rw c.if-q-eq0.true (sym (zero_samples 0 (table_entries c.args.table).bands))
 
 pub loop-i-init : goal.loop-i-init
 unfolding sample_of
@@ -22,13 +17,13 @@ loop-i-init c =
 pub returns-then-q-band : goal.returns-then-q-band
 returns-then-q-band c =
     let (before, above, left) = c.loop-i.invariant.2 in
-    sym (left ∙ scan_stop before c.args.quantity.0 c.args.table.bands c.loop-i.i _ above c.loop-i-test.true c.loop-i.invariant.1 c.if-q-band.true)
+    sym (left ∙ scan_stop before c.args.quantity.0 c.args.table.bands c.loop-i.i _ above c.loop-i-test.true c.loop-i.invariant.1 (omega arith))
 
 pub loop-i-preserved : goal.loop-i-preserved
 loop-i-preserved c =
     let (before, above, left) = c.loop-i.invariant.2 in
-    let next = scan_next before c.args.quantity.0 c.args.table.bands c.loop-i.i _ above c.loop-i-test.true c.loop-i.invariant.1 c.if-q-band.false in
-    (omega arith, c.loop-i.invariant.1, ((get_or c.args.table.bands c.loop-i.i (band 0 0)).highest, c.if-q-band.false, left ∙ next))
+    let next = scan_next before c.args.quantity.0 c.args.table.bands c.loop-i.i _ above c.loop-i-test.true c.loop-i.invariant.1 (omega arith) in
+    (omega arith, c.loop-i.invariant.1, ((get_or c.args.table.bands c.loop-i.i (band 0 0)).highest, omega arith, left ∙ next))
 
 pub returns : goal.returns
 returns c =
