@@ -58,20 +58,19 @@ pub bounds-book-i : goal.bounds-book-i
 bounds-book-i c = omega (arith, few (goal.at.bounds-book-i c).In-loop-i)
 
 pub overflow_add-choices : goal.overflow_add-choices
-overflow_add-choices c = omega (arith, (this_bid (goal.at.overflow_add-choices c).In-loop-i).count_high)
+overflow_add-choices c = let t = (goal.at.overflow_add-choices c).In-loop-i in omega (arith, turn_small t, (this_bid t).count_high)
 
 pub overflow_mul-choices : goal.overflow_mul-choices
-overflow_mul-choices c = omega (arith, turn_small (goal.at.overflow_mul-choices c).In-loop-i)
+overflow_mul-choices c = let t = (goal.at.overflow_mul-choices c).In-loop-i in omega (arith, turn_small t, (this_bid t).count_high)
 
 pub loop-i-preserved : goal.loop-i-preserved
 loop-i-preserved c =
     let t = (goal.at.loop-i-preserved c).In-loop-i in
     let b = c.args.book in
-    let held : b.count ≤ length b.bids = omega (arith, few t, eight t) in (
-      omega arith,
-      c.loop-i.invariant.1 ∙ choices_next b.bids c.loop-i.i b.count c.loop-i.choices c.loop-i-test.true held,
-      product_small c.loop-i.choices c.loop-i.i _ c.loop-i.invariant.2 (this_bid t).count_high,
-    )
+    let held : b.count ≤ length b.bids = omega (arith, few t, eight t) in
+    let next = choices_next b.bids c.loop-i.i b.count c.loop-i.choices c.loop-i-test.true held in
+    let small = product_small c.loop-i.choices c.loop-i.i _ c.loop-i.invariant.2 (this_bid t).count_high in
+    (omega arith, cc, omega (arith, small))
 
 pub returns : goal.returns
 returns c =
