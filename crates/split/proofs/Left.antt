@@ -122,4 +122,4 @@ module _ {book : Book} {rs : List ℕ} {price : ℤ} {sum i : ℕ} (left : Left 
         let passed = book_passed (book_entries book) rs accepted ∙ left.verdict ∙ split_done (2 + i) _ (drop i rs) none over in
         let cost = left.cost ∙ ap (λ (bs : List BidEntries). price +ℤ cost_of (supplies_of bs) (drop i rs)) none ∙ +ℤ_idr price in
         let blanks = left.blanks ∙ ap (λ (l : List ℕ). sum + bought l) over ∙ add-zero sum in
-        rw (passed, cost, blanks)
+        rw passed (cc (cost, blanks))

@@ -1,12 +1,12 @@
 -- The quantities before `i` are on offer and added up with their prices, so those left decide; the first fault is the answer.
-use Rattle.std.proofs.Common.{◌≡◌, ◌≤◌, ◌+◌, ℕ, Bool, true, length, get_or, sym, ap, ◌∙◌, arith}
+use Rattle.std.proofs.Common.{◌≡◌, ◌≤◌, ◌+◌, ℕ, true, length, get_or, sym, ap, ◌∙◌, arith}
 use Rattle.lists.proofs.Slices.{length_held}
 use Rattle.book.specs.Entries.{BidEntries, bid_entries}
 use Rattle.book.specs.Accepted.{AcceptedBid}
 use Rattle.book.proofs.Records.{no_bid}
 use Rattle.book.proofs.Accepted.{few_bids, bid_at_lem}
 use Rattle.refusal.specs.declared.Rule.TheVariants.{SplitQuantity}
-use Rattle.refusal.specs.declared.Verdict.TheVariants.{Accepted, Refused}
+use Rattle.refusal.specs.declared.Verdict.TheVariants.{Refused}
 use Rattle.supply.specs.Supply.{supply_of, offers, price_at}
 use Rattle.supply.proofs.Offers.{offered, not_offered}
 use Rattle.supply.proofs.Accepted.{supply_small}
@@ -99,4 +99,4 @@ returns-then-count-quantities c =
 pub returns : goal.returns
 returns c =
     let all = complete c.loop-i.invariant c.requires c.loop-i-test.false (omega arith) in
-    ap (λ (yes : Bool). record { verdict = Accepted; price = c.loop-i.price; meets = yes }) c.meets-meets.ensures ∙ all
+    cc (all, c.meets-meets.ensures)
