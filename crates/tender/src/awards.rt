@@ -8,6 +8,7 @@ use refusal::Verdict;
 use sampling::Table;
 
 // The award of a text's book, sampled by a table. It is no entry: it does not look whether the table passes.
+#[tactic(auto, unfolding(crate::specs::FromText::clear_text_sampled))]
 pub fn clear_sampled(table: Table, text: &[u8]) -> Clearing
     ensures { result ≡ clear_text_sampled (table_entries table) text.now }
 {

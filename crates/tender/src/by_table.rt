@@ -12,6 +12,7 @@ use output::TextWritten;
 use refusal::Verdict;
 
 // The award of a text's book, sampled by the table of a text: refused as reading refuses the table, then as `clear` refuses the book.
+#[tactic(auto, unfolding(crate::specs::FromText::cleared_by_table))]
 pub fn clear_by_table(table: &[u8], text: &[u8]) -> Clearing
     ensures { result ≡ cleared_by_table table.now text.now }
 {
