@@ -13,7 +13,8 @@
 #   shut   a definition behind a name is opened by the proofs of its own crate alone, and the code names a bid's carriage only where it is
 #          read, written, checked and put into a price, the printed sampling table only where none is passed, or it is written
 #   sums   a choice's record is made in `choicerecord` alone, and every function that gives one ensures that it carries its sums
-#   proof  a Proof.antt begins with a comment, which says why the function meets its contract
+#   proof  what stands in proofs/ of a function (Answers.antt, or Invariants.antt where that is all) begins with a comment, which says why the
+#          function meets its contract
 #   named  nothing that a file of specs/ or proofs/ declares or binds, and no parameter, field or local of the code, has the name of a
 #          function of the library, which a reader would take it for
 import glob
@@ -366,17 +367,17 @@ def check_same():
 EXCEPTIONS = [
     (
         "crates/bookreader/specs/Reading.antt",
-        "booktext.proofs.BookForm.book-reading",
-        "`readOf` answers by the reading of a text that this proof gives; every other reading gives the same (`any-reading`)",
+        "booktext.proofs.BookForm.book_reading",
+        "`read_of` answers by the reading of a text that this proof gives; every other reading gives the same (`any_reading`)",
     ),
     (
         "crates/tablereader/specs/Reading.antt",
-        "tabletext.proofs.TableForm.table-reading",
-        "`readTableOf` likewise, for the text of a sampling table",
+        "tabletext.proofs.TableForm.table_reading",
+        "`read_table_of` likewise, for the text of a sampling table",
     ),
 ]
-# x.proofs.Y.{a, b}, or x.proofs.Y as a whole; the crate itself stands with a word more before it (x·proofs.proofs.Y).
-OF_PROOFS = re.compile(r"(?:Rattle·)?(?P<module>[\w·]+\.proofs(?:\.[\w-]+)*)(?:\.\{(?P<names>[^}]*)\})?")
+# Rattle.x.proofs.Y.{a, b}, or Rattle.x.proofs.Y as a whole, of a crate of this repository: the library's words stand where it has them.
+OF_PROOFS = re.compile(r"Rattle\.(?!(?:std|core)\.)(?P<module>\w+\.proofs(?:\.[\w'-]+)*)(?:\.\{(?P<names>[^}]*)\})?")
 
 
 def used_proofs():
@@ -399,7 +400,7 @@ def check_layers():
 # ---- what stands behind a name
 
 # The crates whose proofs may open a definition: the P cases are worked out, so they open everything.
-OPENED_IN = {"supplyOf": ["supply", "workedcases"]}
+OPENED_IN = {"supply_of": ["supply", "workedcases"]}
 # The crates whose code may name a part of a bid, test programs with them; every other takes segments and prices from `supply`.
 NAMED_IN = {
     "carriage": ["money", "book", "bidrules", "bookrecord", "booklines", "bookwriter", "supply", "cases", "clearcases"],
@@ -439,7 +440,7 @@ def saying(name):
 
 
 def check_sums():
-    sound = rf"ensures {{ λ r\. ⌜ (?:{'|'.join(saying('Carried'))}) .*\br ⌝ }}"
+    sound = rf"ensures(?: \w+)? {{ (?:{'|'.join(saying('Carried'))})(?: .*)? result }}"
     for file in sorted(glob.glob("crates/*/src/**/*.rt", recursive=True)):
         text, made_here = uncommented(file), f"crates/{MAKES_CHOICES}/" in file
         made = re.findall(r"(?<!struct )\bChoice \{|\.(?:starts|ends) = |\.segments\[\w+\] = ", text)
@@ -453,13 +454,19 @@ def check_sums():
 
 
 def check_proofs():
-    for file in sorted(glob.glob("crates/*/proofs/**/Proof.antt", recursive=True)):
+    files = [file for file in glob.glob("crates/*/proofs/**/*.antt", recursive=True) if len(file.split("/")) > 4]
+    for file in sorted(files):
+        if file.endswith("/Invariants.antt") and file.replace("/Invariants.", "/Answers.") in files:
+            continue
+        # A measure alone says by its name what it is for.
+        if file.endswith("/Invariants.antt") and "invariant-" not in read(file):
+            continue
         check(bool(re.match(r"-- \S", read(file))), file, "its first line does not say why the function meets its contract")
 
 
 # ---- names of the library
 
-LIBRARY = r"(?P<name>length|take|drop|map|getD|set|replicate|natAbs|min|max|reverse)\b(?!-)"
+LIBRARY = r"(?P<name>length|take|drop|map|get_or|set|replicate|nat_abs|min|max|reverse)\b(?!-)"
 # What is declared, with a colon after it; what the left side of an equation binds; what (a b : A), λ a b. and let a or let (a, b) bind.
 STATED = [
     r"^\s*(?:(?:pub|abbrev|unfoldable|record|data) )*NAME :",

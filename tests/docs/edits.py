@@ -61,7 +61,8 @@ def public(crate):
     another crate is that crate's."""
     path = f"crates/{crate}/src/lib.rt"
     text = read(path) if os.path.isfile(path) else ""
-    named = re.findall(r"^pub use (\w+)(?:::\w+)*::([a-z]\w*);", text, re.M)
+    used = re.findall(r"^pub use (\w+)(?:::\w+)*::(?:\{([^}]*)\}|([a-z]\w*));", text, re.M)
+    named = [(owner, name) for owner, many, one in used for name in re.findall(r"\b[a-z]\w*", many or one)]
     return re.findall(r"^pub (?:extern \"C\" )?fn (\w+)", text, re.M) + [name for owner, name in named if owner not in crates()]
 
 
