@@ -1,1 +1,3 @@
 pub mod Answers
+mod Whole
+mod Held

@@ -24,7 +24,7 @@ use Rattle.comparison.specs.Records.{found}
 use Rattle.charges.specs.declared.Prices.{Prices}
 use Rattle.charges.specs.declared.Charges.{Charges}
 use Rattle.charges.specs.declared.Sums.{Sums}
-use Rattle.charges.specs.Records.{Capped, ChargesOf, SumsOf, UpTo}
+use Rattle.charges.specs.Records.{charges_in, Capped, ChargesOf, SumsOf, UpTo}
 use Rattle.charges.proofs.Sizes.{sums_up_to}
 use Rattle.completions.specs.Classes.{Covers, Surveyed}
 use Rattle.hopeless.specs.Hopeless.{WinsTies, NothingBetter}
@@ -35,6 +35,9 @@ pub sums_carried : (order : Order) (prices : Prices) (c : Choice) (charged : Cha
     → SumsOf order prices (chosen c) (sums_of c charged)
 sums_carried order prices c charged sound h =
     record { low = sound.carried.starts; high = sound.carried.ends; first = h.first; second = h.second }
+
+pub charges_among : {order : Order} {prices : Prices} {c : List Segment} {sums : Sums} → SumsOf order prices c sums → ChargesOf order prices c (charges_in sums)
+charges_among h = record { first = h.first; second = h.second }
 
 -- the sums of a choice are no larger than those of eight bidders
 pub small_sums : (order : Order) (prices : Prices) (c : Choice) (sums : Sums) → Sound c → Capped prices → SumsOf order prices (chosen c) sums → UpTo 8 sums
