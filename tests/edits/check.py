@@ -1,60 +1,50 @@
-# That the must-fail edits show something. The gate leaves the log of each at target/must-fail/CRATE/EDIT/.log. An edit that adds a call or
-# renames a local makes the proof file unfit for the code, and is refused whatever the contract says. The first error of the log shows
-# that. It does not show that the fact at which an edit of the right shape is refused is false: that is read by a person. Run from the
-# repository's top (tests/edits/run does).
+# That the must-fail edits show something. The gate, .ci/run, leaves what rt said in target/gate.log, with the first error of each edit. An
+# edit that adds a call or renames a local makes the proof files unfit for the code, and is refused whatever the contract says. The first
+# error shows that. It does not show that the fact at which an edit of the right shape is refused is false: that is read by a person. Run
+# from the repository's top (tests/edits/run does).
 import glob
 import os
 import re
 import sys
 
-# What a first error says where the proof file does not fit the code, or the code's form is not covered by the prover's rules.
+LOG = "target/gate.log"
+TRIED = re.compile(r"^rt: must-fail (\S+)\.edit: (.*)$", re.M)
+REFUSED = "refused, as it must be: "
+# What a first error says where the proof files do not fit the code, or the code's form is not covered by the prover's rules.
 UNFIT = [
-    (r"has no `\S+` that can be named from here", "a need that the code no longer has"),
+    (r"has no `\S+` that can be named from here", "a goal that the code no longer has"),
     (r"is not in scope", "a name that is not there"),
-    (r"expected type `\S*Need-\S+?`, but this has type `\S*Need-", "answers in another order than the needs"),
-    (r"but this has type `\S*Need-\S+ →", "fewer answers than needs"),
-    (r"this λ is checked against [^\n]*which is not a function", "more answers than needs"),
-    (r"this λ has \d+ binders, but its type has room for only", "an answer for another kind of need"),
-    (r"record `\S+` has no field|first differ where one has `\S+\.Lts\.After-\S+`", "a step that the code no longer has"),
+    (r"this λ is checked against [^\n]*which is not a function", "more answers than goals"),
+    (r"this λ has \d+ binders, but its type has room for only", "an answer for another kind of goal"),
+    (r"record `\S+` has no field", "a step that the code no longer has"),
     (r"does not cover|not covered", "a form that is not covered"),
 ]
-# What only follows from another error: a caller whose callee is not proved.
-FOLLOWS = "was not admitted"
 
 
-def first_error(log):
-    """The first error by itself, with the lines that belong to it, as one line; or, of a function whose proof the prover makes, what it says
-    is not proved. The prover breaks a long line at any space."""
-    found = re.finditer(r"^\S+: error: .*(?:\n {2}.*)*|^note: .*it is not proved that .*|^fn \S+: no proof: .*", log, re.M)
-    errors = (" ".join(error.group(0).split()) for error in found)
-    return next((error for error in errors if FOLLOWS not in error), None)
-
-
-def fault_of(log):
-    error = first_error(log)
-    if error is None:
-        return "no error in the log"
+def fault_of(said):
+    if said is None:
+        return "the gate's log says nothing of it"
+    if not said.startswith(REFUSED):
+        return said[:200]
+    error = said[len(REFUSED) :]
     return next((f"{kind}: {error[:200]}" for pattern, kind in UNFIT if re.search(pattern, error)), None)
 
 
 def main():
-    passed, faults, missing = 0, [], 0
+    if not os.path.isfile(LOG):
+        print(f"no {LOG}; the gate, .ci/run, leaves it")
+        return 1
+    with open(LOG, encoding="utf-8", errors="replace") as file:
+        tried = dict(TRIED.findall(file.read()))
+    passed, faults = 0, []
     for path in sorted(glob.glob("crates/*/must-fail/*.edit")):
-        crate, name = path.split("/")[1], os.path.basename(path)[: -len(".edit")]
-        log = f"target/must-fail/{crate}/{name}/.log"
-        if not os.path.isfile(log):
-            missing += 1
-            continue
-        with open(log, encoding="utf-8", errors="replace") as file:
-            fault = fault_of(file.read())
+        fault = fault_of(tried.get("/".join(path.split("/")[1::2])[: -len(".edit")]))
         if fault is None:
             passed += 1
         else:
             faults.append(f"{path}: {fault}")
     for fault in faults:
         print(fault)
-    if missing:
-        print(f"{missing} edits have no log; the gate, .ci/run, leaves one of each")
     print(f"{passed} passed, {len(faults)} failed")
     return 1 if faults else 0
 

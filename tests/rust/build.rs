@@ -1,4 +1,4 @@
-//! Links the archive that `rt staticlib boccelarch` builds.
+//! Links the archive that `tools/build boccelarch` builds.
 
 fn main() {
     let here = std::env::var("CARGO_MANIFEST_DIR").expect("cargo names the directory");
