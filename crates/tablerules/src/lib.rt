@@ -23,11 +23,13 @@ pub fn check(table: Table) -> Verdict
     if let Verdict::Refused(_, _) = verdict {
         return verdict;
     }
-    if 16 < count {
+    let too_many = 16 < count;
+    if too_many {
         return Verdict::Refused(Rule::SamplingTable, 17);
     }
     let last = table.bands[count - 1];
-    if last.highest < 1_000_000 {
+    let ends_early = last.highest < 1_000_000;
+    if ends_early {
         return Verdict::Refused(Rule::SamplingTable, count as u64);
     }
     Verdict::Accepted

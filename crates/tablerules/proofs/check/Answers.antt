@@ -26,16 +26,16 @@ last c few =
 most : (c : In_default) → end c ≤ 1000000
 most c = last_most 1 (band 0 0) _ (accepted c) (omega arith)
 
-pub returns-then-last-lt1000000 : goal.returns-then-last-lt1000000
+pub returns-then-ends_early : goal.returns-then-ends_early
 unfolding table_verdict
-returns-then-last-lt1000000 c =
-    let t = (goal.at.returns-then-last-lt1000000 c).In_default in
-    let short = ne_eqb (end t) 1000000 (λ e. omega (arith, last t c.if-count-gt16.false)) in
-    rw (lt-ltb 0 c.args.table.count (omega arith), accepted t, le-leb _ _ c.if-count-gt16.false, short)
+returns-then-ends_early c =
+    let t = (goal.at.returns-then-ends_early c).In_default in
+    let short = ne_eqb (end t) 1000000 (λ e. omega (arith, last t c.if-too_many.false)) in
+    rw (lt-ltb 0 c.args.table.count (omega arith), accepted t, le-leb _ _ c.if-too_many.false, short)
 
 pub returns : goal.returns
 unfolding table_verdict
 returns c =
     let t = (goal.at.returns c).In_default in
-    let ends = eq-eqb (end t) 1000000 (omega (arith, last t c.if-count-gt16.false, most t)) in
-    rw (lt-ltb 0 c.args.table.count (omega arith), accepted t, le-leb _ _ c.if-count-gt16.false, ends)
+    let ends = eq-eqb (end t) 1000000 (omega (arith, last t c.if-too_many.false, most t)) in
+    rw (lt-ltb 0 c.args.table.count (omega arith), accepted t, le-leb _ _ c.if-too_many.false, ends)
