@@ -27,9 +27,11 @@ import edits
 import statements
 
 # The template is checked as the page that is made of it.
-PAGES = ["README.md"] + [page for page in sorted(glob.glob("docs/*.md")) if page != statements.TEMPLATE]
-# The landing notes speak of the past: of them only links are checked, and paths written with docs/ or tests/ in front.
-NOTES = sorted(glob.glob("docs/landings/*.md"))
+PORT = "docs/PORT.md"
+PAGES = ["README.md"] + [page for page in sorted(glob.glob("docs/*.md")) if page not in (statements.TEMPLATE, PORT)]
+# The landing notes, and the page of the port, speak of the past: of them only links are checked, and paths written with docs/ or tests/ in
+# front.
+NOTES = [PORT] + sorted(glob.glob("docs/landings/*.md"))
 
 passed = 0
 faults = []
@@ -305,7 +307,7 @@ ARCHITECTURE = "docs/ARCHITECTURE.md"
 
 def listed_crates():
     lines = [line.split("#")[0].strip() for line in read("crates.txt").split("\n")]
-    return [line.split(":")[0] for line in lines if line]
+    return [line.split(":")[0].split()[0] for line in lines if line]
 
 
 def grouped_crates():
@@ -376,7 +378,8 @@ EXCEPTIONS = [
         "`read_table_of` likewise, for the text of a sampling table",
     ),
 ]
-# Rattle.x.proofs.Y.{a, b}, or Rattle.x.proofs.Y as a whole, of a crate of this repository: the library's words stand where it has them.
+# Rattle.x.proofs.Y.{a, b}, or Rattle.x.proofs.Y as a whole, of a crate of this repository: the library's words stand where it has them. An
+# attribute `tactic` above a function names lemmas too, in another form: it tells the prover where to look, and nothing has to be believed of it.
 OF_PROOFS = re.compile(r"Rattle\.(?!(?:std|core)\.)(?P<module>\w+\.proofs(?:\.[\w'-]+)*)(?:\.\{(?P<names>[^}]*)\})?")
 
 
@@ -417,7 +420,8 @@ def crates_with(files, form):
 
 def check_shut():
     for name, allowed in OPENED_IN.items():
-        for crate in crates_with("**/*.antt", rf"^ *unfolding\b(?:[^=:]*\s){name}\b"):
+        opened = crates_with("**/*.antt", rf"^ *unfolding\b(?:[^=:]*\s){name}\b") + crates_with("src/**/*.rt", rf"unfolding\([^)]*\b{name}\b")
+        for crate in opened:
             check(crate in allowed, f"crates/{crate}", f"opens {name}")
     for name, allowed in NAMED_IN.items():
         for crate in crates_with("src/**/*.rt", rf"\b{name}\b"):

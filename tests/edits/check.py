@@ -1,7 +1,8 @@
 # That the must-fail edits show something. The gate, .ci/run, leaves what rt said in target/gate.log, with the first error of each edit. An
 # edit that adds a call or renames a local makes the proof files unfit for the code, and is refused whatever the contract says. The first
-# error shows that. It does not show that the fact at which an edit of the right shape is refused is false: that is read by a person. Run
-# from the repository's top (tests/edits/run does).
+# error shows that, where rt has no other to show: it passes over errors of names as long as there is one. So an edit also may not change a
+# condition after which a goal is named that a proof file cites. Neither shows that the fact at which an edit of the right shape is refused is
+# false: that is read by a person. Run from the repository's top (tests/edits/run does).
 import glob
 import os
 import re
