@@ -2,7 +2,7 @@
 // the parts in which nothing better can be found.
 #![tactic(auto)]
 
-ghost use Rattle.std.specs.Prelude.{◌≡◌, true, false, drop};
+ghost use Rattle.std.specs.Prelude.{◌≡◌, true, false, length, drop};
 ghost use Rattle.book.specs.Entries.{book_entries};
 ghost use Rattle.supply.specs.Supply.{supplies_of};
 ghost use Rattle.divisions.specs.Award.{award_of};
@@ -76,15 +76,16 @@ fn sums_of(c: Choice, charged: Charges) -> Sums
 // calls itself for the bidders after it, unless nothing better can be found there; with a segment of
 // the last the choice is complete. It returns the best division so far.
 fn search(
-    book: Book,
+    book: &Book,
     table: &[u64; 1152],
     prices: Prices,
     c: Choice,
     charged: Charges,
     best: MaybeDivision,
 ) -> MaybeDivision
-    requires { Searching book prices table.now c charged }
-    ensures { found book.count result ≡ search book.order (drop c.count (supplies_of (book_entries book).bids)) (chosen c) (found book.count best) }
+    requires eight { length book.now.bids ≡ 8 }
+    requires searching { Searching book.now prices table.now c charged }
+    ensures { found book.now.count result ≡ search book.now.order (drop c.count (supplies_of (book_entries book.now).bids)) (chosen c) (found book.now.count best) }
 {
     let order = book.order;
     let n = book.count;
@@ -145,7 +146,7 @@ pub fn best_division(book: Book) -> MaybeDivision
         second: 0,
     };
     search(
-        book,
+        &book,
         &table,
         prices,
         choicerecord::nothing_sold(0),

@@ -1,90 +1,89 @@
 -- The best so far is that of the segments tried, each with every choice for the bidders after, of whom there is one fewer; where a segment
 -- is passed over, the search with it would leave the best so far as it is.
 use Rattle.std.proofs.Common.{◌≡◌, ◌+◌, length, arith}
-use Rattle.lists.proofs.Slices.{length_held}
 use Rattle.search.proofs.Steps.{choosable}
 use Rattle.search.proofs.Turns.{held, accepted, none_tried, all_tried, nothing_left, sound, small_before, small_with, addable, testable, turn_done, passed_over, completed, went_on}
 use Rattle.search.proofs.+search.Goals as goal
 
 pub returns-then-lost : goal.returns-then-lost
 returns-then-lost t c =
-    let eight : length c.args.book.bids ≡ 8 = search (length_held, c.well_formed) in
+    let eight : length c.args.book.now.bids ≡ 8 = c.requires.eight in
     let yes = c.if-lost.true in
-    nothing_left c.requires eight c.sums_of-sums.ensures c.args.best (c.lost.ensures.wins_ties yes) (c.lost.ensures.nothing_better yes)
+    nothing_left c.requires.searching eight c.sums_of-sums.ensures c.args.best (c.lost.ensures.wins_ties yes) (c.lost.ensures.nothing_better yes)
 
 pub overflow_add-j : goal.overflow_add-j
 overflow_add-j t c =
-    let eight : length c.args.book.bids ≡ 8 = search (length_held, c.well_formed) in
-    omega (arith, (accepted c.requires eight).count_high)
+    let eight : length c.args.book.now.bids ≡ 8 = c.requires.eight in
+    omega (arith, (accepted c.requires.searching eight).count_high)
 
 pub loop-j-init : goal.loop-j-init
 loop-j-init t c =
-    let eight : length c.args.book.bids ≡ 8 = search (length_held, c.well_formed) in
-    none_tried c.requires eight c.args.best
+    let eight : length c.args.book.now.bids ≡ 8 = c.requires.eight in
+    none_tried c.requires.searching eight c.args.best
 
 pub segment_of-s-requires : goal.segment_of-s-requires
 segment_of-s-requires t c =
-    let eight : length c.args.book.bids ≡ 8 = search (length_held, c.well_formed) in
-    record { accepted = accepted c.requires eight; within = omega (arith, c.loop-j.invariant.within) }
+    let eight : length c.args.book.now.bids ≡ 8 = c.requires.eight in
+    record { accepted = accepted c.requires.searching eight; within = omega (arith, c.loop-j.invariant.within) }
 
 pub charged-requires : goal.charged-requires
 charged-requires t c =
-    let eight : length c.args.book.bids ≡ 8 = search (length_held, c.well_formed) in
+    let eight : length c.args.book.now.bids ≡ 8 = c.requires.eight in
     let s = c.segment_of-s.ensures in
-    record { sound = sound c.requires eight c.sums_of-sums.ensures _ s.number_in_bounds s.value; capped = c.requires.capped }
+    record { sound = sound c.requires.searching eight c.sums_of-sums.ensures _ s.number_in_bounds s.value; capped = c.requires.searching.capped }
 
 pub plus-more-requires : goal.plus-more-requires
 plus-more-requires t c =
-    let eight : length c.args.book.bids ≡ 8 = search (length_held, c.well_formed) in
+    let eight : length c.args.book.now.bids ≡ 8 = c.requires.eight in
     let s = c.segment_of-s.ensures in
-    addable c.requires eight c.sums_of-sums.ensures _ s.number_in_bounds s.value c.charged.ensures
+    addable c.requires.searching eight c.sums_of-sums.ensures _ s.number_in_bounds s.value c.charged.ensures
 
 -- shown of the sums before too, so that the edit that judges by these is refused for what the test then tells
 pub hopeless-requires : goal.hopeless-requires
 hopeless-requires t c =
-    let eight : length c.args.book.bids ≡ 8 = search (length_held, c.well_formed) in
+    let eight : length c.args.book.now.bids ≡ 8 = c.requires.eight in
     let s = c.segment_of-s.ensures in
-    let before = small_before c.requires eight c.sums_of-sums.ensures in
-    let with = small_with c.requires eight c.sums_of-sums.ensures _ s.number_in_bounds s.value c.charged.ensures c.plus-more.ensures in
-    testable c.requires eight (search (before, with))
+    let before = small_before c.requires.searching eight c.sums_of-sums.ensures in
+    let with = small_with c.requires.searching eight c.sums_of-sums.ensures _ s.number_in_bounds s.value c.charged.ensures c.plus-more.ensures in
+    testable c.requires.searching eight (search (before, with))
 
 pub choose-next-requires : goal.choose-next-requires
 choose-next-requires t c =
-    let eight : length c.args.book.bids ≡ 8 = search (length_held, c.well_formed) in
+    let eight : length c.args.book.now.bids ≡ 8 = c.requires.eight in
     let s = c.segment_of-s.ensures in
-    choosable c.requires.choice_of c.requires.further (held c.requires eight) _ _ s.number_in_bounds s.value
+    choosable c.requires.searching.choice_of c.requires.searching.further (held c.requires.searching eight) _ _ s.number_in_bounds s.value
 
 pub loop-j-preserved-then-last : goal.loop-j-preserved-then-last
 loop-j-preserved-then-last t c =
-    let eight : length c.args.book.bids ≡ 8 = search (length_held, c.well_formed) in
+    let eight : length c.args.book.now.bids ≡ 8 = c.requires.eight in
     let s = c.segment_of-s.ensures in
     let next = c.choose-next.ensures in
     let so_far = c.loop-j.so_far in
-    let last : c.args.c.count + 1 ≡ c.args.book.count = omega (arith, c.requires.further) in
-    let found_next = completed c.requires eight c.sums_of-sums.ensures _ s.number_in_bounds s.value c.charged.ensures c.plus-more.ensures
+    let last : c.args.c.count + 1 ≡ c.args.book.now.count = omega (arith, c.requires.searching.further) in
+    let found_next = completed c.requires.searching eight c.sums_of-sums.ensures _ s.number_in_bounds s.value c.charged.ensures c.plus-more.ensures
     c.choose-next.result next.count_value next.result_value so_far c.leaf-so_far.result last c.leaf-so_far.ensures in
-    turn_done c.requires eight c.sums_of-sums.ensures _ s.number_in_bounds s.value c.loop-j.j _ (omega arith) c.loop-j.invariant found_next
+    turn_done c.requires.searching eight c.sums_of-sums.ensures _ s.number_in_bounds s.value c.loop-j.j _ (omega arith) c.loop-j.invariant found_next
 
 pub loop-j-preserved-else-last : goal.loop-j-preserved-else-last
 loop-j-preserved-else-last t c =
-    let eight : length c.args.book.bids ≡ 8 = search (length_held, c.well_formed) in
+    let eight : length c.args.book.now.bids ≡ 8 = c.requires.eight in
     let s = c.segment_of-s.ensures in
     let next = c.choose-next.ensures in
     let so_far = c.loop-j.so_far in
-    let found_next = went_on c.requires eight c.sums_of-sums.ensures _ s.number_in_bounds s.value c.charged.ensures c.plus-more.ensures
+    let found_next = went_on c.requires.searching eight c.sums_of-sums.ensures _ s.number_in_bounds s.value c.charged.ensures c.plus-more.ensures
     c.choose-next.result next.count_value next.result_value so_far c.search-so_far.result c.search-so_far.ensures in
-    turn_done c.requires eight c.sums_of-sums.ensures _ s.number_in_bounds s.value c.loop-j.j _ (omega arith) c.loop-j.invariant found_next
+    turn_done c.requires.searching eight c.sums_of-sums.ensures _ s.number_in_bounds s.value c.loop-j.j _ (omega arith) c.loop-j.invariant found_next
 
 pub loop-j-preserved : goal.loop-j-preserved
 loop-j-preserved t c =
-    let eight : length c.args.book.bids ≡ 8 = search (length_held, c.well_formed) in
+    let eight : length c.args.book.now.bids ≡ 8 = c.requires.eight in
     let s = c.segment_of-s.ensures in
     let so_far = c.loop-j.so_far in
-    let found_next = passed_over c.requires eight c.sums_of-sums.ensures _ s.number_in_bounds s.value c.charged.ensures c.plus-more.ensures
+    let found_next = passed_over c.requires.searching eight c.sums_of-sums.ensures _ s.number_in_bounds s.value c.charged.ensures c.plus-more.ensures
     so_far (c.hopeless.ensures c.if-not-hopeless.false) in
-    turn_done c.requires eight c.sums_of-sums.ensures _ s.number_in_bounds s.value c.loop-j.j _ (omega arith) c.loop-j.invariant found_next
+    turn_done c.requires.searching eight c.sums_of-sums.ensures _ s.number_in_bounds s.value c.loop-j.j _ (omega arith) c.loop-j.invariant found_next
 
 pub returns : goal.returns
 returns t c =
-    let eight : length c.args.book.bids ≡ 8 = search (length_held, c.well_formed) in
-    all_tried c.requires eight c.args.best c.loop-j.j c.loop-j.so_far (omega arith) c.loop-j.invariant
+    let eight : length c.args.book.now.bids ≡ 8 = c.requires.eight in
+    all_tried c.requires.searching eight c.args.best c.loop-j.j c.loop-j.so_far (omega arith) c.loop-j.invariant

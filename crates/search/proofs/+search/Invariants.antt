@@ -4,7 +4,7 @@ use Rattle.search.proofs.+search.Given as goal
 
 -- the bidders left
 abbrev pub decreases-search : goal.decreases-search
-decreases-search l = l.book.count - l.c.count
+decreases-search l = l.book.now.count - l.c.count
 
 abbrev pub invariant-loop-j : goal.invariant-loop-j
 invariant-loop-j l = Tried l.book l.c l.initial.so_far l.j l.so_far

@@ -44,8 +44,8 @@ pub survey-requires : goal.survey-requires
 survey-requires c =
     record { graded = graded_zeros 1152; few = c.requires.few; bids = c.requires.bids; capped = c.begin-beginning.ensures.capped }
 
-pub search-requires : goal.search-requires
-search-requires c =
+pub search-requires-clause-searching : goal.search-requires-clause-searching
+search-requires-clause-searching c =
     let empty = c.nothing_sold-2.ensures in
     let nothing = nothing_chosen c.nothing_sold-2.result empty.count_value in
     record {
