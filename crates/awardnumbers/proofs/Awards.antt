@@ -7,8 +7,8 @@ use lib.IntN.{nat_abs}
 use lib.ListN.{length}
 use Rattle.refusal.specs.declared.Rule.{Rule}
 use Rattle.refusal.specs.declared.Rule.TheVariants.{OutputLength}
-use Rattle.refusal.specs.declared.Verdict.{Verdict}
-use Rattle.refusal.specs.declared.Verdict.TheVariants.{Accepted, Refused}
+use Rattle.refusal.specs.Verdict.{Verdict}
+use Rattle.refusal.specs.Verdict.{Accepted, Refused}
 use Rattle.printer.specs.Written.{written}
 use Rattle.clearing.specs.declared.Clearing.{Clearing}
 use Rattle.rownumbers.specs.RowNumbers.{award_numbers}

@@ -35,13 +35,13 @@ fn numbers(cleared: Clearing, rows: &mut [u64]) -> AwardNumbers
     ensures rows_after { rows.new ≡ numbers_output cleared rows.old }
 {
     let verdict = cleared.verdict;
-    if let Verdict::Refused(_, _) = verdict {
+    if let Err(_) = verdict {
         return refused(verdict);
     }
     let award = cleared.award;
     let count = award.count;
     if rows.len() < 7 * count {
-        return refused(Verdict::Refused(Rule::OutputLength, 56 * count as u64));
+        return refused(Err(Rule::OutputLength.at(56 * count as u64)));
     }
     rownumbers::put_rows(rows, award);
     let total = award.total;

@@ -11,7 +11,7 @@ use Rattle.lists.specs.All.{All}
 use Rattle.lists.proofs.All.{all_at}
 use Rattle.lists.proofs.Slices.{take_most}
 use Rattle.lists.proofs.Removed.{length_removed, all_removed}
-use Rattle.refusal.specs.declared.Verdict.TheVariants.{Accepted}
+use Rattle.refusal.specs.Verdict.{Accepted}
 use Rattle.book.specs.declared.Book.{Book}
 use Rattle.book.specs.Entries.{BidEntries, BookEntries, bid_entries, book_entries}
 use Rattle.book.specs.Rules.{book_verdict}

@@ -2,10 +2,11 @@
 use Prim.Native.Nat.{ℕ}
 use mathlib.Core.Option.{Option, some, none}
 use mathlib.Core.Path.{◌≡◌, refl, ap}
+use Rattle.std.specs.Prelude.{Ok, Err}
 use Rattle.refusal.specs.declared.Rule.{Rule}
 use Rattle.refusal.specs.declared.Rule.TheVariants.{NotCovered}
-use Rattle.refusal.specs.declared.Verdict.{Verdict}
-use Rattle.refusal.specs.declared.Verdict.TheVariants.{Accepted, Refused}
+use Rattle.refusal.specs.Verdict.{Verdict}
+use Rattle.refusal.specs.Verdict.{Accepted, Refused}
 use Rattle.book.specs.declared.Book.{Book}
 use Rattle.book.specs.Entries.{BookEntries, book_entries, SameBook}
 use Rattle.book.specs.Rules.{book_verdict}
@@ -33,15 +34,15 @@ module _ (table : TableEntries) (b : BookEntries) where
   cleared h = go (book_verdict b) refl (award_of_book b) refl
     where
       go : (v : Verdict) → book_verdict b ≡ v → (o : Option Priced) → award_of_book b ≡ o → Cleared
-      go (Refused rule line) e o f = absurd (accepted_refused (clear_sampled table b).verdict rule line h (ap (λ (c : Clearing). c.verdict) (rules_first table b rule line e)))
-      go Accepted e none f = absurd (accepted_refused (clear_sampled table b).verdict NotCovered 0 h (ap (λ (c : Clearing). c.verdict) (no_division table b e f)))
-      go Accepted e (some award) f = record { accepted = e; award = award; is_award = f; answer = division table b award e f }
+      go (Err refusal) e o f = absurd (accepted_refused (clear_sampled table b).verdict refusal.rule refusal.place h (ap (λ (c : Clearing). c.verdict) (rules_first table b refusal.rule refusal.place e)))
+      go (Ok _) e none f = absurd (accepted_refused (clear_sampled table b).verdict NotCovered 0 h (ap (λ (c : Clearing). c.verdict) (no_division table b e f)))
+      go (Ok _) e (some award) f = record { accepted = e; award = award; is_award = f; answer = division table b award e f }
 
   -- with each refusal the award is all zeros and `none`
   pub refused_blank : (rule : Rule) (place : ℕ) → (clear_sampled table b).verdict ≡ Refused rule place → (clear_sampled table b).award ≡ no_award
   refused_blank rule place h = go (book_verdict b) refl (award_of_book b) refl
     where
       go : (v : Verdict) → book_verdict b ≡ v → (o : Option Priced) → award_of_book b ≡ o → (clear_sampled table b).award ≡ no_award
-      go (Refused first line) e o f = ap (λ (c : Clearing). c.award) (rules_first table b first line e)
-      go Accepted e none f = ap (λ (c : Clearing). c.award) (no_division table b e f)
-      go Accepted e (some award) f = absurd (accepted_refused (clear_sampled table b).verdict rule place (ap (λ (c : Clearing). c.verdict) (division table b award e f)) h)
+      go (Err refusal) e o f = ap (λ (c : Clearing). c.award) (rules_first table b refusal.rule refusal.place e)
+      go (Ok _) e none f = ap (λ (c : Clearing). c.award) (no_division table b e f)
+      go (Ok _) e (some award) f = absurd (accepted_refused (clear_sampled table b).verdict rule place (ap (λ (c : Clearing). c.verdict) (division table b award e f)) h)

@@ -16,25 +16,25 @@ pub fn check_bid(bid: Bid, line: u64, before: u64) -> Verdict
     ensures { result ≡ bid_verdict line before (bid_entries bid) }
 {
     if !segmentrules::within(1, 6, bid.count as u64) {
-        return Verdict::Refused(Rule::SegmentCount, line);
+        return Err(Rule::SegmentCount.at(line));
     }
     if !segmentrules::within(1, 9_999, bid.bidder) {
-        return Verdict::Refused(Rule::Range, line);
+        return Err(Rule::Range.at(line));
     }
     if !segmentrules::within(0, 10_000, bid.carriage.0) {
-        return Verdict::Refused(Rule::Range, line);
+        return Err(Rule::Range.at(line));
     }
     if !segmentrules::all_pass(Test::InRange, bid) {
-        return Verdict::Refused(Rule::Range, line);
+        return Err(Rule::Range.at(line));
     }
     if bid.bidder <= before {
-        return Verdict::Refused(Rule::BidderOrder, line);
+        return Err(Rule::BidderOrder.at(line));
     }
     if !segmentrules::segments_rise(bid) {
-        return Verdict::Refused(Rule::SegmentOrder, line);
+        return Err(Rule::SegmentOrder.at(line));
     }
     if !segmentrules::all_pass(Test::StartNotNegative, bid) {
-        return Verdict::Refused(Rule::NegativePrice, line);
+        return Err(Rule::NegativePrice.at(line));
     }
-    Verdict::Accepted
+    Ok(())
 }

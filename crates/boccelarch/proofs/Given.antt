@@ -4,7 +4,7 @@ use Prim.Native.Nat.{ℕ}
 use mathlib.Core.List.{List}
 use mathlib.Core.Path.{◌≡◌, ap}
 use Rattle.refusal.specs.Number.{number_of, place_of}
-use Rattle.refusal.specs.declared.Verdict.{Verdict}
+use Rattle.refusal.specs.Verdict.{Verdict}
 use Rattle.output.specs.declared.TextWritten.{TextWritten}
 
 pub refusal_given : {A : Type 0} (verdict : A → Verdict) {answer stated : A} → answer ≡ stated → {number place : ℕ}

@@ -11,7 +11,7 @@ use Rattle.lists.specs.All.{All}
 use Rattle.lists.specs.Every.{every}
 use Rattle.lists.proofs.All.{all_indexed, all_at}
 use Rattle.lists.proofs.Tests.{both_left, both_right}
-use Rattle.refusal.specs.declared.Verdict.TheVariants.{Accepted}
+use Rattle.refusal.specs.Verdict.{Accepted}
 use Rattle.refusal.proofs.Firsts.{all_passed, test_holds}
 use Rattle.book.specs.declared.Bid.{Bid}
 use Rattle.book.specs.declared.Book.{Book}

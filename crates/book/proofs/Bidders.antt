@@ -5,7 +5,7 @@ use mathlib.Core.List.{List, [], ◌∷◌}
 use mathlib.Core.Path.{◌≡◌}
 use Rattle.lists.specs.All.{All}
 use Rattle.lists.proofs.All.{all_from}
-use Rattle.refusal.specs.declared.Verdict.TheVariants.{Accepted}
+use Rattle.refusal.specs.Verdict.{Accepted}
 use Rattle.book.specs.Entries.{BidEntries}
 use Rattle.book.specs.Rules.{bids_verdict}
 use Rattle.book.proofs.Accepted.{first_line, later_lines}

@@ -7,7 +7,7 @@ use lib.Seq.{slice, get_or-take, length-take-le}
 use Rattle.lists.proofs.Slices.{slice_next, slice_done}
 use Rattle.refusal.proofs.Firsts.{only}
 use Rattle.refusal.specs.declared.Rule.{Rule}
-use Rattle.refusal.specs.declared.Verdict.TheVariants.{Accepted, Refused}
+use Rattle.refusal.specs.Verdict.{Accepted, Refused}
 use Rattle.book.specs.declared.Bid.{Bid}
 use Rattle.book.specs.Entries.{BidEntries, bid_entries}
 use Rattle.book.specs.Rules.{bid_verdict, bids_verdict}

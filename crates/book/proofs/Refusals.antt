@@ -12,7 +12,7 @@ use Rattle.lists.proofs.All.{all_tested}
 use Rattle.refusal.specs.Checks.{unless}
 use Rattle.refusal.specs.declared.Rule.{Rule}
 use Rattle.refusal.specs.declared.Rule.TheVariants.{BidCount, SegmentCount, Range, BidderOrder, SegmentOrder, NegativePrice}
-use Rattle.refusal.specs.declared.Verdict.TheVariants.{Refused}
+use Rattle.refusal.specs.Verdict.{Refused}
 use Rattle.refusal.proofs.Refusals.{RefusedBy, by_first, by_unless, is_other, Other, never_other}
 use Rattle.book.specs.Entries.{BidEntries, BookEntries}
 use Rattle.book.specs.Rules.{within, bid_in_range, segments_rise, start_not_negative, bid_verdict, order_in_range, bids_verdict, book_verdict}

@@ -1,7 +1,7 @@
 -- What an accepted book keeps. Contracts ask for as much of it as their functions need.
 use Rattle.std.specs.Prelude.{ℕ, ◌≤◌, ◌<◌, true, ◌≡◌}
 use Rattle.lists.specs.Every.{every}
-use Rattle.refusal.specs.declared.Verdict.TheVariants.{Accepted}
+use Rattle.refusal.specs.Verdict.{Accepted}
 use Rattle.book.specs.Entries.{BidEntries, BookEntries}
 use Rattle.book.specs.Rules.{segment_in_range, segments_rise, start_not_negative, bids_verdict}
 

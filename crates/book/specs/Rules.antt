@@ -7,8 +7,8 @@ use Rattle.lists.specs.Every.{every}
 use Rattle.money.specs.Price.{price_of}
 use Rattle.refusal.specs.Checks.{unless, first_of}
 use Rattle.refusal.specs.declared.Rule.TheVariants.{BidCount, SegmentCount, Range, BidderOrder, SegmentOrder, NegativePrice}
-use Rattle.refusal.specs.declared.Verdict.{Verdict}
-use Rattle.refusal.specs.declared.Verdict.TheVariants.{Accepted}
+use Rattle.refusal.specs.Verdict.{Verdict}
+use Rattle.refusal.specs.Verdict.{Accepted}
 use Rattle.book.specs.declared.Segment.{Segment}
 use Rattle.book.specs.declared.Order.{Order}
 use Rattle.book.specs.Entries.{BidEntries, BookEntries}

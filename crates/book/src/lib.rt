@@ -2,6 +2,8 @@
 // `bidrules` and `bookrules` check it.
 #![tactic(auto)]
 
+ghost use Rattle.std.specs.Prelude.{◌≡◌, take};
+
 use money::{Blanks, Cents, CentsPerBlank};
 
 // From start to end, both counted, r blanks cost unit × r + fixed.
@@ -37,4 +39,22 @@ pub struct Book {
     pub order: Order,
     pub count: usize,
     pub bids: [Bid; 8],
+}
+
+impl Bid {
+    // The segments that the record counts and holds.
+    pub fn listed(&self) -> &[Segment]
+        ensures { result.now ≡ take self.now.count self.now.segments }
+    {
+        &self.segments[..self.count.min(6)]
+    }
+}
+
+impl Book {
+    // The bids that the record counts and holds.
+    pub fn listed(&self) -> &[Bid]
+        ensures { result.now ≡ take self.now.count self.now.bids }
+    {
+        &self.bids[..self.count.min(8)]
+    }
 }

@@ -1,7 +1,7 @@
 -- What every text gets, of each answer that is worked out from its book alone. `size` is the length of the lent output and `out` its bytes.
 use Rattle.std.specs.Prelude.{ℕ, List}
 use Rattle.refusal.specs.Checks.{when_accepted}
-use Rattle.refusal.specs.declared.Verdict.{Verdict}
+use Rattle.refusal.specs.Verdict.{Verdict}
 use Rattle.book.specs.Entries.{BookEntries, book_entries}
 use Rattle.booktext.specs.BookText.{book_text}
 use Rattle.bookreader.specs.Reading.{read_of}

@@ -17,7 +17,7 @@ pub fn write(text: &[u8], out: &mut [u8]) -> TextWritten
 {
     let read = bookreader::read(text);
     let verdict = read.verdict;
-    if let Verdict::Refused(_, _) = verdict {
+    if let Err(_) = verdict {
         return output::refused(verdict);
     }
     let book = read.book;
@@ -30,7 +30,7 @@ pub fn sizes(text: &[u8]) -> BookSizes
 {
     let read = bookreader::read(text);
     let verdict = read.verdict;
-    if let Verdict::Refused(_, _) = verdict {
+    if let Err(_) = verdict {
         return sizes::refused(verdict);
     }
     let book = read.book;
@@ -43,7 +43,7 @@ pub fn price_split(text: &[u8], quantities: &[u64]) -> SplitPrice
 {
     let read = bookreader::read(text);
     let verdict = read.verdict;
-    if let Verdict::Refused(_, _) = verdict {
+    if let Err(_) = verdict {
         return split::refused(verdict);
     }
     let book = read.book;

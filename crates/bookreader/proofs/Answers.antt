@@ -7,7 +7,7 @@ use lib.Dec.{leb}
 use lib.ListN.{length}
 use Rattle.refusal.specs.Checks.{when_accepted}
 use Rattle.refusal.specs.declared.Rule.TheVariants.{TextLength, Shape}
-use Rattle.refusal.specs.declared.Verdict.TheVariants.{Accepted}
+use Rattle.refusal.specs.Verdict.{Accepted}
 use Rattle.book.specs.declared.Book.{Book}
 use Rattle.book.specs.Entries.{BookEntries, book_entries}
 use Rattle.book.specs.Rules.{book_verdict}

@@ -3,7 +3,7 @@ use Rattle.std.specs.Prelude.{ℕ, cond, List, leb, length}
 use Rattle.refusal.specs.Checks.{when_accepted}
 use Rattle.refusal.specs.declared.Rule.{Rule}
 use Rattle.refusal.specs.declared.Rule.TheVariants.{TextLength, Shape}
-use Rattle.refusal.specs.declared.Verdict.TheVariants.{Refused}
+use Rattle.refusal.specs.Verdict.{Refused}
 use Rattle.book.specs.Entries.{BookEntries, book_entries}
 use Rattle.book.specs.Rules.{book_verdict}
 use Rattle.forms.specs.Shape.{answer}

@@ -21,7 +21,7 @@ fn refused(rule: Rule, place: u64) -> BookRead
     ensures { result ≡ refused_answer rule place }
 {
     BookRead {
-        verdict: Verdict::Refused(rule, place),
+        verdict: Err(rule.at(place)),
         book: bookrecord::empty_book(),
     }
 }
@@ -45,8 +45,8 @@ pub fn read(text: &[u8]) -> BookRead
     }
     let book = parsed.book;
     let verdict = bookrules::check(book);
-    if let Verdict::Refused(rule, line) = verdict {
-        return refused(rule, line);
+    if let Err(refusal) = verdict {
+        return refused(refusal.rule, refusal.place);
     }
     BookRead { verdict, book }
 }

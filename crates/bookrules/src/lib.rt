@@ -28,18 +28,18 @@ pub fn check(book: Book) -> Verdict
 {
     let order = book.order;
     if !order_in_range(order) {
-        return Verdict::Refused(Rule::Range, 1);
+        return Err(Rule::Range.at(1));
     }
     let count = book.count;
     if count == 0 {
-        return Verdict::Refused(Rule::BidCount, 2);
+        return Err(Rule::BidCount.at(2));
     }
     let verdict = lines::check_bids(book);
-    if let Verdict::Refused(_, _) = verdict {
+    if let Err(_) = verdict {
         return verdict;
     }
     if 8 < count {
-        return Verdict::Refused(Rule::BidCount, 10);
+        return Err(Rule::BidCount.at(10));
     }
-    Verdict::Accepted
+    Ok(())
 }

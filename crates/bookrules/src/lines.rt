@@ -27,12 +27,12 @@ pub fn check_bids(book: Book) -> Verdict
     while i < n {
         let b = book.bids[i];
         let verdict = bidrules::check_bid(b, line, before);
-        if let Verdict::Refused(_, _) = verdict {
+        if let Err(_) = verdict {
             return verdict;
         }
         before = b.bidder;
         line += 1;
         i += 1;
     }
-    Verdict::Accepted
+    Ok(())
 }

@@ -15,7 +15,7 @@ use Rattle.lists.specs.Joined.{joined}
 use Rattle.lists.proofs.All.{all_tested, all_from, all_both, all_any}
 use Rattle.lists.proofs.Joined.{joined_short, joined_long}
 use Rattle.money.specs.Price.{price_of}
-use Rattle.refusal.specs.declared.Verdict.TheVariants.{Accepted}
+use Rattle.refusal.specs.Verdict.{Accepted}
 use Rattle.book.specs.declared.Segment.{Segment}
 use Rattle.book.specs.Entries.{BidEntries, BookEntries}
 use Rattle.book.specs.Rules.{segment_in_range, segments_rise, start_not_negative, book_verdict}

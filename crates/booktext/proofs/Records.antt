@@ -6,7 +6,7 @@ use lib.ListN.{replicate, length-map}
 use Rattle.lists.specs.All.{All}
 use Rattle.lists.proofs.All.{all_from, all_both, all_any, all_append, all_same, all_take, all_map, map_all, map_back}
 use Rattle.lists.proofs.Padded.{length_padded, take_count}
-use Rattle.refusal.specs.declared.Verdict.TheVariants.{Accepted}
+use Rattle.refusal.specs.Verdict.{Accepted}
 use Rattle.book.specs.Entries.{BidEntries, BookEntries, bid_entries, book_entries}
 use Rattle.book.specs.Rules.{book_verdict}
 use Rattle.book.specs.Accepted.{AcceptedBid}

@@ -1,6 +1,6 @@
 -- Writing a bid book: what every record and every lent output gets.
 use Rattle.std.specs.Prelude.{ℕ, List}
-use Rattle.refusal.specs.declared.Verdict.{Verdict}
+use Rattle.refusal.specs.Verdict.{Verdict}
 use Rattle.book.specs.declared.Book.{Book}
 use Rattle.book.specs.Entries.{book_entries}
 use Rattle.book.specs.Rules.{book_verdict}

@@ -6,7 +6,7 @@ ghost use Rattle.book.specs.Rules.{book_verdict};
 ghost use Rattle.booktext.specs.BookText.{segment_text, bid_head, bid_text, book_head, book_text};
 ghost use Rattle.printer.specs.Written.{Put};
 ghost use Rattle.lines.specs.Line.{part_text};
-ghost use Rattle.refusal.specs.declared.Verdict.TheVariants.{Accepted};
+ghost use Rattle.refusal.specs.Verdict.{Accepted};
 ghost use Rattle.bookwriter.specs.Asked.{BidAt, BidsAt};
 
 use book::{Bid, Book, Segment};

@@ -2,7 +2,7 @@
 #![tactic(auto)]
 
 ghost use Rattle.std.specs.Prelude.{◌≡◌, length};
-ghost use Rattle.refusal.specs.declared.Verdict.TheVariants.{Accepted};
+ghost use Rattle.refusal.specs.Verdict.{Accepted};
 ghost use Rattle.book.specs.Entries.{book_entries};
 ghost use Rattle.book.specs.Rules.{book_verdict};
 ghost use Rattle.bookwriter.specs.Writing.{text_of, write_of, output_of};
@@ -28,7 +28,7 @@ pub fn write(book: Book, out: &mut [u8]) -> TextWritten
     ensures out_after { out.new ≡ output_of book out.old }
 {
     let verdict = bookrules::check(book);
-    if let Verdict::Refused(_, _) = verdict {
+    if let Err(_) = verdict {
         return output::refused(verdict);
     }
     let needed = measure(book);

@@ -22,7 +22,7 @@ pub fn number(rt: &HostRuntime, n: u64) -> io::Result<()> {
 }
 
 pub fn verdict(rt: &HostRuntime, verdict: Verdict) -> io::Result<()> {
-    if let Verdict::Accepted = verdict {
+    if let Ok(()) = verdict {
         return print!(rt; "accepted");
     }
     let number = refusal::number(verdict);

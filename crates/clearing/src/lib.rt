@@ -57,12 +57,12 @@ pub fn clear_sampled(table: Table, book: Book) -> Clearing
     ensures { result ≡ clear_sampled (table_entries table) (book_entries book) }
 {
     let verdict = bookrules::check(book);
-    if let Verdict::Refused(_, _) = verdict {
+    if let Err(_) = verdict {
         return refused(verdict);
     }
     let best = search::best_division(book);
     if !best.found {
-        return refused(Verdict::Refused(Rule::NotCovered, 0));
+        return refused(Err(Rule::NotCovered.at(0)));
     }
     let demand = book.order.demand;
     let bought = best.bought;
@@ -77,7 +77,7 @@ pub fn clear_sampled(table: Table, book: Book) -> Clearing
         rows,
     };
     Clearing {
-        verdict: Verdict::Accepted,
+        verdict: Ok(()),
         award,
     }
 }
@@ -96,7 +96,7 @@ pub fn clear_by_table(table: Table, book: Book) -> Clearing
     ensures { result ≡ clear_by_table (table_entries table) (book_entries book) }
 {
     let verdict = tablerules::check(table);
-    if let Verdict::Refused(_, _) = verdict {
+    if let Err(_) = verdict {
         return refused(verdict);
     }
     clear_sampled(table, book)

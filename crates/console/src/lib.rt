@@ -61,7 +61,7 @@ fn put(layout: Layout, loaded: bool, table: &[u8], text: &[u8], out: &mut [u8]) 
 fn tell_refused(rt: &HostRuntime, layout: Layout, table: &[u8]) {
     let read = tablereader::read(table);
     let verdict = read.verdict;
-    if let Verdict::Refused(_, _) = verdict {
+    if let Err(_) = verdict {
         told::table_refused(rt, layout);
     }
 }

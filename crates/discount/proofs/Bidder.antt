@@ -10,7 +10,7 @@ use lib.ListN.{length, get_or, set}
 use Rattle.lists.specs.All.{All}
 use Rattle.lists.specs.Those.{those}
 use Rattle.lists.proofs.All.{all_from, all_at}
-use Rattle.refusal.specs.declared.Verdict.TheVariants.{Accepted}
+use Rattle.refusal.specs.Verdict.{Accepted}
 use Rattle.book.specs.declared.Book.{Book}
 use Rattle.book.specs.Entries.{BidEntries, book_entries}
 use Rattle.book.specs.Rules.{bids_verdict, book_verdict}

@@ -4,14 +4,15 @@ use mathlib.Core.Bool.{Bool, true, false, ◌&&◌, and-true, false≢true}
 use mathlib.Core.Path.{◌≡◌, refl, sym, ap, ap₂, ◌∙◌}
 use lib.Dec.{leb}
 use lib.ListN.{get_or}
+use Rattle.std.specs.Prelude.{Ok, Err}
 use Rattle.lists.specs.Every.{every}
 use Rattle.lists.specs.Those.{those}
 use Rattle.lists.proofs.Tests.{both_left, both_right}
 use Rattle.lists.proofs.Everywhere.{every_both, every_map}
 use Rattle.refusal.specs.Checks.{unless, when_accepted}
 use Rattle.refusal.specs.declared.Rule.{Rule}
-use Rattle.refusal.specs.declared.Verdict.{Verdict}
-use Rattle.refusal.specs.declared.Verdict.TheVariants.{Accepted, Refused}
+use Rattle.refusal.specs.Verdict.{Verdict}
+use Rattle.refusal.specs.Verdict.{Accepted, Refused}
 use Rattle.book.specs.declared.Segment.{Segment}
 use Rattle.book.specs.Entries.{BidEntries, BookEntries}
 use Rattle.book.specs.Rules.{start_not_negative, book_verdict}
@@ -58,5 +59,5 @@ unfolding leaves_accepted
 leaves_accepted_lem b bidder cents e = go (book_verdict (book_off b bidder cents)) (both_right (every (has_cents cents) (those (is_of bidder) b.bids)) _ e)
   where
     go : (v : Verdict) → when_accepted v true false ≡ true → v ≡ Accepted
-    go Accepted e = refl
-    go (Refused rule place) e = absurd (false≢true e)
+    go (Ok _) e = refl
+    go (Err refusal) e = absurd (false≢true e)

@@ -8,14 +8,15 @@ use borrow.Author.Tests.{le-leb}
 use lib.Dec.{leb, ltb}
 use lib.IntN.{pos, neg_ℤ}
 use lib.ListN.{get_or}
+use Rattle.std.specs.Prelude.{Ok, Err}
 use Rattle.lists.specs.Every.{every}
 use Rattle.lists.proofs.All.{all_tested, all_from}
 use Rattle.lists.proofs.Tests.{both_left, both_right, both_hold}
 use Rattle.lists.proofs.Everywhere.{every_map, every_all}
 use Rattle.refusal.specs.Checks.{unless, first_of}
 use Rattle.refusal.specs.declared.Rule.TheVariants.{BidCount, Range, NegativePrice}
-use Rattle.refusal.specs.declared.Verdict.{Verdict}
-use Rattle.refusal.specs.declared.Verdict.TheVariants.{Accepted, Refused}
+use Rattle.refusal.specs.Verdict.{Verdict}
+use Rattle.refusal.specs.Verdict.{Accepted, Refused}
 use Rattle.refusal.proofs.Firsts.{all_passed, test_holds, only}
 use Rattle.book.specs.declared.Segment.{Segment}
 use Rattle.book.specs.Entries.{BidEntries, BookEntries}
@@ -27,8 +28,8 @@ use Rattle.discount.proofs.Bidder.{none_off}
 
 -- a check before one that accepts
 before_accepted : (v : Verdict) → first_of (v ∷ Accepted ∷ []) ≡ v
-before_accepted Accepted = refl
-before_accepted (Refused rule place) = refl
+before_accepted (Ok _) = refl
+before_accepted (Err refusal) = refl
 
 -- whether rule 8 is kept with so many cents off
 abbrev pub kept_off : ℕ → BidEntries → Bool

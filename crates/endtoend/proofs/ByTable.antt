@@ -4,10 +4,11 @@ use Prim.Native.Nat.{ℕ, ◌≤◌, ◌<◌}
 use mathlib.Core.List.{List}
 use mathlib.Core.Path.{◌≡◌, refl, sym, ap, ◌∙◌, subst}
 use lib.ListN.{length}
+use Rattle.std.specs.Prelude.{Ok, Err}
 use Rattle.refusal.specs.declared.Rule.{Rule}
 use Rattle.refusal.specs.declared.Rule.TheVariants.{TextLength, Shape, SamplingTable}
-use Rattle.refusal.specs.declared.Verdict.{Verdict}
-use Rattle.refusal.specs.declared.Verdict.TheVariants.{Accepted, Refused}
+use Rattle.refusal.specs.Verdict.{Verdict}
+use Rattle.refusal.specs.Verdict.{Accepted, Refused}
 use Rattle.forms.specs.Shape.{TextOf, of_shape, not_of_shape, answer}
 use Rattle.textreading.proofs.Answers.{read_text, read_long}
 use Rattle.textreading.proofs.Told.{Answered, by_length, by_reading, read_answered, accepted_as}
@@ -71,11 +72,11 @@ module _ (text : Award → List ℕ) (s t out : List ℕ) where
   of_shape_outcome short e it q = go (table_text_verdict e) refl
     where
       go : (v : Verdict) → table_text_verdict e ≡ v → OutcomeByTable text s t out
-      go Accepted f = passes short (verdict_of_lem q ∙ f)
-      go (Refused rule line) f =
-          let twelve : table_text_verdict e ≡ Refused SamplingTable line =
-          f ∙ ap (λ (r : Rule). Refused r line) (refused_by_12 (table_entries (table_record e)) rule line f).0 in
-          table_broken e (record { short = short; text = it }) line twelve (refused SamplingTable line (verdict_of_lem q ∙ twelve))
+      go (Ok _) f = passes short (verdict_of_lem q ∙ f)
+      go (Err refusal) f =
+          let twelve : table_text_verdict e ≡ Refused SamplingTable refusal.place =
+          f ∙ ap (λ (r : Rule). Refused r refusal.place) (refused_by_12 (table_entries (table_record e)) refusal.rule refusal.place f).0 in
+          table_broken e (record { short = short; text = it }) refusal.place twelve (refused SamplingTable refusal.place (verdict_of_lem q ∙ twelve))
 
   -- Whatever bytes a table and a text have: the table is refused with the stated number and place, whatever the text is, or the text has its
   -- outcome, sampled by this table.
@@ -95,8 +96,8 @@ unfolding printed_as
 prints_by_table text s t = go (read_table_of s).verdict refl
   where
     go : (v : Verdict) → (read_table_of s).verdict ≡ v → PrintOutcomeByTable text s t
-    go Accepted e =
+    go (Ok _) e =
         printed_by_table (table_in s) (its_table s (accepted_as tables s e).1.short e)
         (subst (PrintOutcome text (table_in s) t) (sym (loaded_table s t e)) (prints text (table_in s) t))
-    go (Refused rule place) e =
-        table_line rule place (λ out. refused text s t out rule place e) (rw (refused_table_lem s t rule place e))
+    go (Err refusal) e =
+        table_line refusal.rule refusal.place (λ out. refused text s t out refusal.rule refusal.place e) (rw (refused_table_lem s t refusal.rule refusal.place e))

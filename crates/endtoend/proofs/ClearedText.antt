@@ -4,8 +4,9 @@ use mathlib.Core.List.{List}
 use mathlib.Core.Option.{Option, some, none}
 use mathlib.Core.Path.{◌≡◌, refl, sym, ap, ◌∙◌, subst}
 use lib.ListN.{length, get_or}
-use Rattle.refusal.specs.declared.Verdict.{Verdict}
-use Rattle.refusal.specs.declared.Verdict.TheVariants.{Accepted, Refused}
+use Rattle.std.specs.Prelude.{Ok, Err}
+use Rattle.refusal.specs.Verdict.{Verdict}
+use Rattle.refusal.specs.Verdict.{Accepted, Refused}
 use Rattle.refusal.proofs.Firsts.{refused_not}
 use Rattle.book.specs.declared.Book.{Book}
 use Rattle.book.specs.Rules.{book_verdict}
@@ -89,8 +90,8 @@ module _ (table : TableEntries) (t : List ℕ) (accepted : (clear_text_sampled t
   was_read = go (read_of t).verdict refl
     where
       go : (v : Verdict) → (read_of t).verdict ≡ v → (read_of t).verdict ≡ Accepted
-      go Accepted e = e
-      go (Refused rule place) e = refused_not (rw e at accepted)
+      go (Ok _) e = e
+      go (Err refusal) e = refused_not (rw e at accepted)
 
   record_cleared : (clear_sampled table (book_of t)).verdict ≡ Accepted
   record_cleared = ap (λ (c : Clearing). c.verdict) (sym (cleared_book_lem t was_read table)) ∙ accepted

@@ -8,12 +8,13 @@ use mathlib.Core.Logic.{◌↔◌}
 use mathlib.Core.Path.{◌≡◌, refl, sym, ap, ◌∙◌, subst}
 use borrow.Author.Tests.{leb-true, le-leb}
 use lib.Dec.{leb}
+use Rattle.std.specs.Prelude.{Ok, Err}
 use Rattle.lists.specs.Every.{every}
 use Rattle.refusal.specs.Checks.{unless, first_of}
 use Rattle.refusal.specs.Number.{number_of}
 use Rattle.refusal.specs.declared.Rule.TheVariants.{NotCovered, OutputLength}
-use Rattle.refusal.specs.declared.Verdict.{Verdict}
-use Rattle.refusal.specs.declared.Verdict.TheVariants.{Accepted, Refused}
+use Rattle.refusal.specs.Verdict.{Verdict}
+use Rattle.refusal.specs.Verdict.{Accepted, Refused}
 use Rattle.refusal.proofs.Firsts.{all_passed, test_holds}
 use Rattle.book.specs.Entries.{BookEntries, book_entries}
 use Rattle.book.proofs.Refusals.{never_by}
@@ -67,9 +68,9 @@ module _ (table : TableEntries) (t : List ℕ) (size : ℕ) where
 
   -- 9 comes from clearing: the list's length gives 10 alone
   cleared_first : (v w : Verdict) → number_of w ≡ 9 → (fits : Bool) → first_of (v ∷ unless fits OutputLength (56 * count) ∷ []) ≡ w → v ≡ w
-  cleared_first (Refused rule place) w h fits e = e
-  cleared_first Accepted w h true e = absurd (omega (arith, ap number_of e))
-  cleared_first Accepted w h false e = absurd (omega (arith, ap number_of e))
+  cleared_first (Err refusal) w h fits e = e
+  cleared_first (Ok _) w h true e = absurd (omega (arith, ap number_of e))
+  cleared_first (Ok _) w h false e = absurd (omega (arith, ap number_of e))
 
   pub numbers_nine_iff : (numbers_verdict (clear_text_sampled table t) size ≡ Refused NotCovered 0) ↔ ((b : BookEntries) × UncoveredText t b)
   unfolding numbers_verdict

@@ -12,7 +12,7 @@ use Rattle.lists.proofs.All.{all_indexed}
 use Rattle.lists.proofs.Joined.{joined_short}
 use Rattle.lists.proofs.Slices.{take_most}
 use Rattle.refusal.specs.declared.Rule.TheVariants.{OutputLength}
-use Rattle.refusal.specs.declared.Verdict.TheVariants.{Accepted, Refused}
+use Rattle.refusal.specs.Verdict.{Accepted, Refused}
 use Rattle.book.specs.declared.Book.{Book}
 use Rattle.book.specs.Entries.{BookEntries, book_entries}
 use Rattle.book.proofs.Accepted.{book_accepted}

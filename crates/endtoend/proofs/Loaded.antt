@@ -2,9 +2,10 @@
 use Prim.Native.Nat.{ℕ}
 use mathlib.Core.List.{List}
 use mathlib.Core.Path.{◌≡◌, refl, sym, ap, ◌∙◌, subst}
+use Rattle.std.specs.Prelude.{Ok, Err}
 use Rattle.refusal.specs.declared.Rule.{Rule}
-use Rattle.refusal.specs.declared.Verdict.{Verdict}
-use Rattle.refusal.specs.declared.Verdict.TheVariants.{Accepted, Refused}
+use Rattle.refusal.specs.Verdict.{Verdict}
+use Rattle.refusal.specs.Verdict.{Accepted, Refused}
 use Rattle.textreading.proofs.Answers.{read_text, accepted_answer}
 use Rattle.sampling.specs.Entries.{TableEntries, table_entries}
 use Rattle.sampling.specs.Sampling.{printed_table}
@@ -37,8 +38,8 @@ module _ (s t : List ℕ) where
   either_way P refused accepted = go (read_table_of s).verdict refl
     where
       go : (v : Verdict) → (read_table_of s).verdict ≡ v → P (cleared_by_table s t)
-      go Accepted e = subst P (sym (loaded_table e)) (accepted e)
-      go (Refused rule place) e = subst P (sym (refused_table_lem rule place e)) (refused rule place e)
+      go (Ok _) e = subst P (sym (loaded_table e)) (accepted e)
+      go (Err refusal) e = subst P (sym (refused_table_lem refusal.rule refusal.place e)) (refused refusal.rule refusal.place e)
 
 -- given the table that s says
 module _ (s : List ℕ) (e : TableEntries) (is : AcceptedTable s e) where

@@ -5,11 +5,12 @@ use mathlib.Core.List.{List}
 use mathlib.Core.Path.{◌≡◌, refl, sym, ◌∙◌, subst}
 use borrow.Author.Tests.{le-leb}
 use lib.ListN.{length}
+use Rattle.std.specs.Prelude.{Ok, Err}
 use Rattle.refusal.specs.Number.{rule_number}
 use Rattle.refusal.specs.declared.Rule.{Rule}
 use Rattle.refusal.specs.declared.Rule.TheVariants.{OutputLength}
-use Rattle.refusal.specs.declared.Verdict.{Verdict}
-use Rattle.refusal.specs.declared.Verdict.TheVariants.{Accepted, Refused}
+use Rattle.refusal.specs.Verdict.{Verdict}
+use Rattle.refusal.specs.Verdict.{Accepted, Refused}
 use Rattle.refusal.proofs.Numbers.{two_digits}
 use Rattle.refusal.proofs.Refusals.{never_other}
 use Rattle.forms.proofs.Digits.{length_below}
@@ -36,10 +37,10 @@ module _ (text : Award → List ℕ) (most : ℕ) (cleared : Clearing) (before :
   printed_fits h = go cleared.verdict refl
     where
       go : (v : Verdict) → cleared.verdict ≡ v → length (printed_as text cleared) ≤ most
-      go Accepted e = rw e (fits e)
-      go (Refused rule place) e =
-          let told : BeforeOutput (Refused rule place) = subst BeforeOutput e before in
-          rw e (omega (arith, refusal_short rule place told.1))
+      go (Ok _) e = rw e (fits e)
+      go (Err refusal) e =
+          let told : BeforeOutput (Refused refusal.rule refusal.place) = subst BeforeOutput e before in
+          rw e (omega (arith, refusal_short refusal.rule refusal.place told.1))
 
   -- it gets the verdict of clearing, and never rule 10
   module _ (out : List ℕ) (enough : most ≤ length out) where
@@ -48,8 +49,8 @@ module _ (text : Award → List ℕ) (most : ℕ) (cleared : Clearing) (before :
     same_verdict = go cleared.verdict refl
       where
         go : (v : Verdict) → cleared.verdict ≡ v → (written_as text cleared (length out)).verdict ≡ cleared.verdict
-        go Accepted e = rw (e, le-leb (length (text cleared.award)) (length out) (omega (arith, fits e)))
-        go (Refused rule place) e = rw e
+        go (Ok _) e = rw (e, le-leb (length (text cleared.award)) (length out) (omega (arith, fits e)))
+        go (Err refusal) e = rw e
 
     pub never_10 : (place : ℕ) → (written_as text cleared (length out)).verdict ≡ Refused OutputLength place → ⊥
     never_10 place e =

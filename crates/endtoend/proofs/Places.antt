@@ -6,13 +6,14 @@ use mathlib.Core.List.{List, map}
 use mathlib.Core.Option.{Option, some, none}
 use mathlib.Core.Path.{◌≡◌, refl, sym, subst}
 use lib.ListN.{length, take, length-map}
+use Rattle.std.specs.Prelude.{Ok, Err}
 use Rattle.lists.specs.Every.{every}
 use Rattle.lists.proofs.Padded.{length_padded}
 use Rattle.lists.proofs.Slices.{take_most}
 use Rattle.refusal.specs.declared.Rule.{Rule}
 use Rattle.refusal.specs.declared.Rule.TheVariants.{OutputLength}
-use Rattle.refusal.specs.declared.Verdict.{Verdict}
-use Rattle.refusal.specs.declared.Verdict.TheVariants.{Accepted, Refused}
+use Rattle.refusal.specs.Verdict.{Verdict}
+use Rattle.refusal.specs.Verdict.{Accepted, Refused}
 use Rattle.refusal.proofs.Refusals.{RefusedBy, Other}
 use Rattle.book.specs.Entries.{BookEntries, bid_entries, book_entries}
 use Rattle.book.specs.Rules.{book_verdict}
@@ -50,11 +51,11 @@ unfolding every
 book_before b = go (book_verdict (book_entries (book_record b))) refl
   where
     go : (v : Verdict) → book_verdict (book_entries (book_record b)) ≡ v → BeforeOutput v
-    go Accepted e = tt
-    go (Refused rule line) e =
+    go (Ok _) e = tt
+    go (Err refusal) e =
         let record_of = book_entries (book_record b) in (
-          by_other OutputLength refl record_of rule line e,
-          omega (arith, record_line record_of rule line (few_bids b) e),
+          by_other OutputLength refl record_of refusal.rule refusal.place e,
+          omega (arith, record_line record_of refusal.rule refusal.place (few_bids b) e),
         )
 
 clear_before : (table : TableEntries) (b : BookEntries) → book_verdict b ≡ Accepted → BeforeOutput (clear_sampled table b).verdict
@@ -82,5 +83,5 @@ module _ (t : List ℕ) where
   before_output table = go (read_of t).verdict refl
     where
       go : (v : Verdict) → (read_of t).verdict ≡ v → BeforeOutput (clear_text_sampled table t).verdict
-      go Accepted e = rw e (clear_before table (book_of t) (book_accepted t e))
-      go (Refused rule place) e = let small : BeforeOutput (Refused rule place) = rw e at read_before in rw e small
+      go (Ok _) e = rw e (clear_before table (book_of t) (book_accepted t e))
+      go (Err refusal) e = let small : BeforeOutput (Refused refusal.rule refusal.place) = rw e at read_before in rw e small

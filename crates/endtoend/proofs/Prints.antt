@@ -2,8 +2,9 @@
 use mathlib.Core.List.{List}
 use mathlib.Core.Path.{◌≡◌, refl}
 use Prim.Native.Nat.{ℕ}
-use Rattle.refusal.specs.declared.Verdict.{Verdict}
-use Rattle.refusal.specs.declared.Verdict.TheVariants.{Accepted, Refused}
+use Rattle.std.specs.Prelude.{Ok, Err}
+use Rattle.refusal.specs.Verdict.{Verdict}
+use Rattle.refusal.specs.Verdict.{Accepted, Refused}
 use Rattle.sampling.specs.Entries.{TableEntries}
 use Rattle.award.specs.declared.Award.{Award}
 use Rattle.bookanswers.specs.BookAnswers.{book_of}
@@ -17,5 +18,5 @@ unfolding printed_as
 prints text table t = go (clear_text_sampled table t).verdict refl
   where
     go : (v : Verdict) → (clear_text_sampled table t).verdict ≡ v → PrintOutcome text table t (clear_text_sampled table t)
-    go Accepted e = its_text (book_of t) (accepted_text t (was_read table t e)) (clear_text_sampled table t).award (its_award table t e) (rw e)
-    go (Refused rule place) e = its_refusal rule place (λ out. nothing_written text (clear_text_sampled table t) out rule place e) (rw e)
+    go (Ok _) e = its_text (book_of t) (accepted_text t (was_read table t e)) (clear_text_sampled table t).award (its_award table t e) (rw e)
+    go (Err refusal) e = its_refusal refusal.rule refusal.place (λ out. nothing_written text (clear_text_sampled table t) out refusal.rule refusal.place e) (rw e)

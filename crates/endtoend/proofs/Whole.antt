@@ -8,10 +8,11 @@ use mathlib.Core.Path.{◌≡◌, refl, sym, ap, ◌∙◌}
 use borrow.Author.Tests.{leb-true, leb-false}
 use lib.Dec.{leb}
 use lib.ListN.{length}
+use Rattle.std.specs.Prelude.{Ok, Err}
 use Rattle.refusal.specs.declared.Rule.{Rule}
 use Rattle.refusal.specs.declared.Rule.TheVariants.{TextLength, Shape, NotCovered, OutputLength}
-use Rattle.refusal.specs.declared.Verdict.{Verdict}
-use Rattle.refusal.specs.declared.Verdict.TheVariants.{Accepted, Refused}
+use Rattle.refusal.specs.Verdict.{Verdict}
+use Rattle.refusal.specs.Verdict.{Accepted, Refused}
 use Rattle.book.specs.Entries.{BookEntries, book_entries}
 use Rattle.book.specs.Rules.{book_verdict}
 use Rattle.forms.specs.Shape.{TextOf, of_shape, not_of_shape, answer}
@@ -108,8 +109,8 @@ module _ (text : Award → List ℕ) (table : TableEntries) (t out : List ℕ) w
   of_shape_outcome short b it e = go (book_verdict (book_entries (book_record b))) refl
     where
       go : (v : Verdict) → book_verdict (book_entries (book_record b)) ≡ v → TextOutcome
-      go Accepted f = accepted_outcome (ap (λ (r : BookRead). r.verdict) e ∙ f)
-      go (Refused rule line) f = broken b (record { short = short; text = it }) rule line f (refused_text rule line (ap (λ (r : BookRead). r.verdict) e ∙ f))
+      go (Ok _) f = accepted_outcome (ap (λ (r : BookRead). r.verdict) e ∙ f)
+      go (Err refusal) f = broken b (record { short = short; text = it }) refusal.rule refusal.place f (refused_text refusal.rule refusal.place (ap (λ (r : BookRead). r.verdict) e ∙ f))
 
   -- Whatever bytes a text has: if it is accepted and covered, the bytes written are the text of the award that no other division beats, or
   -- the output is too short for it; else the refusal is the stated one.

@@ -10,8 +10,8 @@ use lib.Seq.{take-append_seam}
 use Rattle.refusal.specs.Checks.{unless}
 use Rattle.refusal.specs.declared.Rule.{Rule}
 use Rattle.refusal.specs.declared.Rule.TheVariants.{OutputLength}
-use Rattle.refusal.specs.declared.Verdict.{Verdict}
-use Rattle.refusal.specs.declared.Verdict.TheVariants.{Accepted, Refused}
+use Rattle.refusal.specs.Verdict.{Verdict}
+use Rattle.refusal.specs.Verdict.{Accepted, Refused}
 use Rattle.refusal.proofs.Firsts.{first_passed}
 use Rattle.printer.specs.Written.{written}
 use Rattle.output.specs.Writing.{writing_verdict, written_of, output_after, not_written, all_written}

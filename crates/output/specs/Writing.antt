@@ -2,8 +2,8 @@
 use Rattle.std.specs.Prelude.{ℕ, List, [], ◌∷◌, leb, length}
 use Rattle.refusal.specs.Checks.{unless, first_of, when_accepted}
 use Rattle.refusal.specs.declared.Rule.TheVariants.{OutputLength}
-use Rattle.refusal.specs.declared.Verdict.{Verdict}
-use Rattle.refusal.specs.declared.Verdict.TheVariants.{Accepted}
+use Rattle.refusal.specs.Verdict.{Verdict}
+use Rattle.refusal.specs.Verdict.{Accepted}
 use Rattle.printer.specs.Written.{written}
 use Rattle.output.specs.declared.TextWritten.{TextWritten}
 

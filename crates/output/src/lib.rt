@@ -3,7 +3,7 @@
 
 ghost use Rattle.std.specs.Prelude.{◌≡◌};
 ghost use Rattle.refusal.specs.declared.Rule.TheVariants.{OutputLength};
-ghost use Rattle.refusal.specs.declared.Verdict.TheVariants.{Refused};
+ghost use Rattle.refusal.specs.Verdict.{Refused};
 ghost use Rattle.output.specs.Writing.{not_written, all_written};
 
 use refusal::{Rule, Verdict};
@@ -26,7 +26,7 @@ pub fn refused(verdict: Verdict) -> TextWritten
 pub fn too_short(needed: usize) -> TextWritten
     ensures { result ≡ not_written (Refused OutputLength needed) }
 {
-    refused(Verdict::Refused(Rule::OutputLength, needed as u64))
+    refused(Err(Rule::OutputLength.at(needed as u64)))
 }
 
 // The whole text was written.
@@ -34,7 +34,7 @@ pub fn whole(bytes: usize) -> TextWritten
     ensures { result ≡ all_written bytes }
 {
     TextWritten {
-        verdict: Verdict::Accepted,
+        verdict: Ok(()),
         bytes: bytes as u64,
     }
 }

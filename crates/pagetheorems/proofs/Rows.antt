@@ -7,7 +7,7 @@ use lib.ListN.{length, length-map}
 use lib.Seq.{length-take-le}
 use Rattle.lists.specs.Padded.{padded}
 use Rattle.lists.proofs.Padded.{length_padded, take_count}
-use Rattle.refusal.specs.declared.Verdict.TheVariants.{Accepted}
+use Rattle.refusal.specs.Verdict.{Accepted}
 use Rattle.book.specs.declared.Book.{Book}
 use Rattle.book.specs.Entries.{BookEntries, book_entries}
 use Rattle.sampling.specs.Entries.{TableEntries}

@@ -7,7 +7,7 @@ use mathlib.Core.Path.{◌≡◌, subst}
 use lib.IntN.{ℤ}
 use lib.ListN.{length}
 use lib.Signed.{◌≤ℤ◌}
-use Rattle.refusal.specs.declared.Verdict.TheVariants.{Accepted}
+use Rattle.refusal.specs.Verdict.{Accepted}
 use Rattle.book.specs.declared.Book.{Book}
 use Rattle.book.specs.Entries.{book_entries}
 use Rattle.sampling.specs.Entries.{TableEntries}

@@ -10,7 +10,7 @@ use Rattle.lists.specs.All.{All}
 use Rattle.lists.specs.Every.{every}
 use Rattle.lists.specs.Those.{those}
 use Rattle.money.specs.Price.{price_of}
-use Rattle.refusal.specs.declared.Verdict.TheVariants.{Accepted}
+use Rattle.refusal.specs.Verdict.{Accepted}
 use Rattle.book.specs.Entries.{BookEntries}
 use Rattle.book.specs.Rules.{segment_in_range, bid_in_range, segments_rise, start_not_negative, bid_verdict, bids_verdict, order_in_range, book_verdict}
 use Rattle.sampling.specs.Entries.{TableEntries}

@@ -1,7 +1,7 @@
 -- Laws of clearing: where R relates two accepted books, P holds of what clearing answers for them. Of books, which are those of records (the
 -- book of a record is `book_entries` of it), and of texts.
 use Rattle.std.specs.Prelude.{ℕ, List, ◌≡◌}
-use Rattle.refusal.specs.declared.Verdict.TheVariants.{Accepted}
+use Rattle.refusal.specs.Verdict.{Accepted}
 use Rattle.book.specs.Entries.{BookEntries}
 use Rattle.book.specs.Rules.{book_verdict}
 use Rattle.sampling.specs.Entries.{TableEntries}

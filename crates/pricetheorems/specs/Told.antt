@@ -3,7 +3,7 @@
 use Rattle.std.specs.Prelude.{ℕ, ◌≤◌, ◌<◌, ◌↔◌, ◌≡◌, ℤ, ◌≤ℤ◌}
 use Rattle.money.specs.declared.Cents.{Cents}
 use Rattle.refusal.specs.declared.Rule.TheVariants.{NotCovered}
-use Rattle.refusal.specs.declared.Verdict.TheVariants.{Accepted, Refused}
+use Rattle.refusal.specs.Verdict.{Accepted, Refused}
 use Rattle.book.specs.Entries.{BookEntries}
 use Rattle.award.specs.declared.Total.TheVariants.{Amount}
 use Rattle.award.specs.declared.Award.{Award}

@@ -4,7 +4,7 @@ use native.Mathlib.Omega.{arith}
 use mathlib.Core.List.{List}
 use mathlib.Core.Path.{◌≡◌, refl, ap, ap₂, ◌∙◌}
 use lib.ListN.{length, take}
-use Rattle.refusal.specs.declared.Verdict.TheVariants.{Accepted}
+use Rattle.refusal.specs.Verdict.{Accepted}
 use Rattle.output.specs.declared.TextWritten.{TextWritten}
 use Rattle.output.proofs.Answers.{Answered, all_written_lem}
 use Rattle.clearing.specs.declared.Clearing.{Clearing}

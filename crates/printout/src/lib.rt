@@ -3,7 +3,7 @@
 #![tactic(auto)]
 
 ghost use Rattle.std.specs.Prelude.{◌≡◌, ◌≤◌, length, take};
-ghost use Rattle.refusal.specs.declared.Verdict.TheVariants.{Accepted};
+ghost use Rattle.refusal.specs.Verdict.{Accepted};
 ghost use Rattle.output.specs.Writing.{written_of, output_after};
 ghost use Rattle.awardwriter.specs.Layout.{layout_text};
 ghost use Rattle.tender.specs.FromText.{printed_as, clear_text};
@@ -22,8 +22,8 @@ fn write(layout: Layout, cleared: Clearing, out: &mut [u8]) -> TextWritten
     ensures out_after { out.new ≡ output_after Accepted (printed_as (layout_text layout) cleared) out.old }
 {
     let verdict = cleared.verdict;
-    if let Verdict::Refused(rule, place) = verdict {
-        return sheet::write_refusal(rule, place, out);
+    if let Err(refusal) = verdict {
+        return sheet::write_refusal(refusal.rule, refusal.place, out);
     }
     let award = cleared.award;
     awardwriter::write(layout, award, out)

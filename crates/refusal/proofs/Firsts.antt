@@ -4,10 +4,11 @@ use native.Mathlib.Omega.{arith}
 use mathlib.Core.Bool.{Bool, true, false}
 use mathlib.Core.List.{List, [], ◌∷◌}
 use mathlib.Core.Path.{◌≡◌, refl}
+use Rattle.std.specs.Prelude.{Ok, Err}
 use Rattle.lists.specs.All.{All}
 use Rattle.refusal.specs.declared.Rule.{Rule}
-use Rattle.refusal.specs.declared.Verdict.{Verdict}
-use Rattle.refusal.specs.declared.Verdict.TheVariants.{Accepted, Refused}
+use Rattle.refusal.specs.Verdict.{Verdict}
+use Rattle.refusal.specs.Verdict.{Accepted, Refused}
 use Rattle.refusal.specs.Checks.{unless, first_of}
 
 -- no refusal is an acceptance
@@ -15,16 +16,16 @@ pub refused_not : {A : Type 0} {rule : Rule} {place : ℕ} → Refused rule plac
 refused_not e = let z : ◌≡◌ {A = ℕ} 0 1 = cc in absurd (omega arith)
 
 pub only : (v : Verdict) → first_of (v ∷ []) ≡ v
-only Accepted = refl
-only (Refused rule place) = refl
+only (Ok _) = refl
+only (Err refusal) = refl
 
 pub first_passed : (v : Verdict) (vs : List Verdict) → first_of (v ∷ vs) ≡ Accepted → v ≡ Accepted
-first_passed Accepted vs e = refl
-first_passed (Refused rule place) vs e = e
+first_passed (Ok _) vs e = refl
+first_passed (Err refusal) vs e = e
 
 rest_passed : (v : Verdict) (vs : List Verdict) → first_of (v ∷ vs) ≡ Accepted → first_of vs ≡ Accepted
-rest_passed Accepted vs e = e
-rest_passed (Refused rule place) vs e = refused_not e
+rest_passed (Ok _) vs e = e
+rest_passed (Err refusal) vs e = refused_not e
 
 -- nothing is refused exactly if every check accepts
 pub all_passed : (checks : List Verdict) → first_of checks ≡ Accepted → All (λ v. v ≡ Accepted) checks

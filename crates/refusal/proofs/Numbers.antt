@@ -5,10 +5,11 @@ use mathlib.Core.Bool.{cond}
 use mathlib.Core.Logic.{◌↔◌}
 use mathlib.Core.Path.{◌≡◌, refl, sym, ap, ap₂, ◌∙◌}
 use lib.Dec.{eqb}
+use Rattle.std.specs.Prelude.{Ok, Err}
 use Rattle.refusal.specs.declared.Rule.{Rule}
 use Rattle.refusal.specs.declared.Rule.TheVariants.{TextLength, Shape, BidCount, SegmentCount, Range, BidderOrder, SegmentOrder, NegativePrice, NotCovered, OutputLength, SplitQuantity, SamplingTable, UnknownBidder}
-use Rattle.refusal.specs.declared.Verdict.{Verdict}
-use Rattle.refusal.specs.declared.Verdict.TheVariants.{Accepted, Refused}
+use Rattle.refusal.specs.Verdict.{Verdict}
+use Rattle.refusal.specs.Verdict.{Refused}
 use Rattle.refusal.specs.Number.{rule_number, number_of, place_of}
 
 -- the rule of a number
@@ -66,7 +67,7 @@ pub told_by_number : (v w : Verdict) → (v ≡ w) ↔ ((number_of v ≡ number_
 told_by_number v w = (λ e. (ap number_of e, ap place_of e), λ h. go v w h.0 h.1)
   where
     go : (v w : Verdict) → number_of v ≡ number_of w → place_of v ≡ place_of w → v ≡ w
-    go Accepted Accepted e f = refl
-    go Accepted (Refused rule place) e f = absurd (omega (arith, (two_digits rule).0))
-    go (Refused rule place) Accepted e f = absurd (omega (arith, (two_digits rule).0))
-    go (Refused rule place) (Refused other at) e f = ap₂ (λ (r : Rule) (n : ℕ). Refused r n) (distinct_numbers rule other e) f
+    go (Ok _) (Ok _) e f = refl
+    go (Ok _) (Err refusal) e f = absurd (omega (arith, (two_digits refusal.rule).0))
+    go (Err refusal) (Ok _) e f = absurd (omega (arith, (two_digits refusal.rule).0))
+    go (Err refusal) (Err other_refusal) e f = ap₂ (λ (r : Rule) (n : ℕ). Refused r n) (distinct_numbers refusal.rule other_refusal.rule e) f

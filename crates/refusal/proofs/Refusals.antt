@@ -5,23 +5,23 @@ use mathlib.Core.List.{List, [], ◌∷◌}
 use mathlib.Core.Path.{◌≡◌, refl, sym, ap, ◌∙◌}
 use borrow.Author.Tests.{eq-eqb}
 use lib.Dec.{eqb}
+use Rattle.std.specs.Prelude.{Ok, Err}
 use Rattle.lists.specs.All.{All}
 use Rattle.refusal.specs.declared.Rule.{Rule}
-use Rattle.refusal.specs.declared.Verdict.{Verdict}
-use Rattle.refusal.specs.declared.Verdict.TheVariants.{Accepted, Refused}
+use Rattle.refusal.specs.Verdict.{Verdict}
 use Rattle.refusal.specs.Checks.{unless, first_of}
 use Rattle.refusal.specs.Number.{rule_number}
 
 -- accepted, or refused by a rule and at a place of which P holds
 abbrev pub RefusedBy : (Rule → ℕ → Type 0) → Verdict → Type 0
-RefusedBy P Accepted = Unit {0}
-RefusedBy P (Refused rule place) = P rule place
+RefusedBy P (Ok _) = Unit {0}
+RefusedBy P (Err refusal) = P refusal.rule refusal.place
 
 module _ (P : Rule → ℕ → Type 0) where
   pub by_first : (checks : List Verdict) → All (RefusedBy P) checks → RefusedBy P (first_of checks)
   by_first [] h = tt
-  by_first (Accepted ∷ checks) h = by_first checks h.1
-  by_first (Refused rule place ∷ checks) h = h.0
+  by_first (Ok _ ∷ checks) h = by_first checks h.1
+  by_first (Err refusal ∷ checks) h = h.0
 
   pub by_unless : (test : Bool) (rule : Rule) (place : ℕ) → P rule place → RefusedBy P (unless test rule place)
   by_unless true rule place h = tt

@@ -1,9 +1,8 @@
 -- The numbers and places of document 01, section "What is turned down", and of document 02.
-use Rattle.std.specs.Prelude.{ℕ}
+use Rattle.std.specs.Prelude.{ℕ, Ok, Err}
 use Rattle.refusal.specs.declared.Rule.{Rule}
 use Rattle.refusal.specs.declared.Rule.TheVariants.{TextLength, Shape, BidCount, SegmentCount, Range, BidderOrder, SegmentOrder, NegativePrice, NotCovered, OutputLength, SplitQuantity, SamplingTable, UnknownBidder}
-use Rattle.refusal.specs.declared.Verdict.{Verdict}
-use Rattle.refusal.specs.declared.Verdict.TheVariants.{Accepted, Refused}
+use Rattle.refusal.specs.Verdict.{Verdict}
 
 abbrev pub rule_number : Rule → ℕ
 rule_number TextLength = 1  -- the text is longer than 4,096 bytes
@@ -22,9 +21,9 @@ rule_number UnknownBidder = 13  -- a bidder who is not in the book (document 02,
 
 -- the number and the place that a verdict shows; 0 and 0 where nothing is refused
 abbrev pub number_of : Verdict → ℕ
-number_of Accepted = 0
-number_of (Refused rule place) = rule_number rule
+number_of (Ok _) = 0
+number_of (Err refusal) = rule_number refusal.rule
 
 abbrev pub place_of : Verdict → ℕ
-place_of Accepted = 0
-place_of (Refused rule place) = place
+place_of (Ok _) = 0
+place_of (Err refusal) = refusal.place

@@ -2,10 +2,11 @@
 #![tactic(auto)]
 
 ghost use Rattle.std.specs.Prelude.{◌≡◌};
-ghost use Rattle.refusal.specs.Number.{number_of, place_of};
+ghost use Rattle.refusal.specs.Checks.{unless};
+ghost use Rattle.refusal.specs.Number.{rule_number, number_of, place_of};
 
 // A rule of document 01, section "What is turned down", or of document 02, in the order of its numbers from 1.
-#[derive(Clone, Copy)]
+#[derive(Clone, Copy, PartialEq, Eq)]
 pub enum Rule {
     TextLength,
     Shape,
@@ -22,20 +23,22 @@ pub enum Rule {
     UnknownBidder,
 }
 
-// Accepted, or refused by a rule at a place (a line, a place in the text or a length).
-#[derive(Clone, Copy)]
-pub enum Verdict {
-    Accepted,
-    Refused(Rule, u64),
+// A rule that was broken, at a place (a line, a place in the text or a length).
+#[derive(Clone, Copy, PartialEq, Eq)]
+pub struct Refusal {
+    pub rule: Rule,
+    pub place: u64,
 }
 
-// The number under which a verdict is shown; 0 where nothing is refused.
-pub fn number(verdict: Verdict) -> u64
-    ensures { result ≡ number_of verdict }
-{
-    match verdict {
-        Verdict::Accepted => 0,
-        Verdict::Refused(rule, _) => match rule {
+// Accepted, or refused.
+pub type Verdict = Result<(), Refusal>;
+
+impl Rule {
+    // The number under which a refusal by the rule is shown.
+    fn number(self) -> u64
+        ensures { result ≡ rule_number self }
+    {
+        match self {
             Rule::TextLength => 1,
             Rule::Shape => 2,
             Rule::BidCount => 3,
@@ -49,7 +52,34 @@ pub fn number(verdict: Verdict) -> u64
             Rule::SplitQuantity => 11,
             Rule::SamplingTable => 12,
             Rule::UnknownBidder => 13,
-        },
+        }
+    }
+
+    // The refusal by the rule at a place.
+    pub fn at(self, place: u64) -> Refusal
+        ensures { result ≡ record { rule = self; place = place } }
+    {
+        Refusal { rule: self, place }
+    }
+
+    // Refused by the rule at a place, unless the test holds.
+    pub fn unless(self, holds: bool, place: u64) -> Verdict
+        ensures { result ≡ unless holds self place }
+    {
+        if !holds {
+            return Err(self.at(place));
+        }
+        Ok(())
+    }
+}
+
+// The number under which a verdict is shown; 0 where nothing is refused.
+pub fn number(verdict: Verdict) -> u64
+    ensures { result ≡ number_of verdict }
+{
+    match verdict {
+        Ok(()) => 0,
+        Err(refusal) => refusal.rule.number(),
     }
 }
 
@@ -58,7 +88,7 @@ pub fn place(verdict: Verdict) -> u64
     ensures { result ≡ place_of verdict }
 {
     match verdict {
-        Verdict::Accepted => 0,
-        Verdict::Refused(_, place) => place,
+        Ok(()) => 0,
+        Err(refusal) => refusal.place,
     }
 }

@@ -6,7 +6,7 @@ use mathlib.Core.Path.{◌≡◌, refl, sym}
 use lib.ListN.{length, take}
 use Rattle.lists.specs.Every.{every}
 use Rattle.refusal.specs.declared.Rule.TheVariants.{Shape}
-use Rattle.refusal.specs.declared.Verdict.TheVariants.{Accepted, Refused}
+use Rattle.refusal.specs.Verdict.{Accepted, Refused}
 use Rattle.book.specs.Entries.{BookEntries}
 use Rattle.book.specs.Rules.{book_verdict}
 use Rattle.book.proofs.Refusals.{never_by}

@@ -5,11 +5,12 @@ use native.Mathlib.Omega.{arith}
 use mathlib.Core.List.{List, []}
 use mathlib.Core.Path.{◌≡◌, refl, sym, ap, ◌∙◌, subst}
 use lib.ListN.{length, take}
+use Rattle.std.specs.Prelude.{Ok, Err}
 use Rattle.refusal.specs.Number.{rule_number}
 use Rattle.refusal.specs.declared.Rule.{Rule}
 use Rattle.refusal.specs.declared.Rule.TheVariants.{TextLength, Shape, SamplingTable}
-use Rattle.refusal.specs.declared.Verdict.{Verdict}
-use Rattle.refusal.specs.declared.Verdict.TheVariants.{Accepted, Refused}
+use Rattle.refusal.specs.Verdict.{Verdict}
+use Rattle.refusal.specs.Verdict.{Accepted, Refused}
 use Rattle.refusal.proofs.Refusals.{RefusedBy}
 use Rattle.forms.specs.Shape.{TextOf, Begins}
 use Rattle.forms.specs.Word.{word_parse}
@@ -100,11 +101,11 @@ pub table_refused_by : (P : Rule → ℕ → Type 0) → P TextLength 4096 → (
 table_refused_by P long other line t = Told.refused_by_lem tables t P long other (λ e. go e (table_verdict (table_entries (table_record e))) refl)
   where
     go : (e : TableEntries) (v : Verdict) → table_verdict (table_entries (table_record e)) ≡ v → RefusedBy P v
-    go e Accepted q = tt
-    go e (Refused rule n) q =
-        let (by-12, low, _) = refused_by_12 (table_entries (table_record e)) rule n q in
-        let high = record_line (table_record e) (record_full e) rule n q in
-        subst (λ (r : Rule). P r n) (sym by-12) (line n low high)
+    go e (Ok _) q = tt
+    go e (Err refusal) q =
+        let (by-12, low, _) = refused_by_12 (table_entries (table_record e)) refusal.rule refusal.place q in
+        let high = record_line (table_record e) (record_full e) refusal.rule refusal.place q in
+        subst (λ (r : Rule). P r refusal.place) (sym by-12) (line refusal.place low high)
 
 pub table_refused_zeros : (t : List ℕ) (rule : Rule) (place : ℕ) → (read_table_of t).verdict ≡ Refused rule place → read_table_of t ≡ refused_table rule place
 table_refused_zeros = Told.refused_answer_lem tables

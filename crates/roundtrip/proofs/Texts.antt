@@ -4,9 +4,10 @@ use mathlib.Core.List.{List}
 use mathlib.Core.Path.{◌≡◌, refl, sym, ap, ◌∙◌, subst}
 use borrow.Author.Tests.{le-leb}
 use lib.ListN.{length, take}
+use Rattle.std.specs.Prelude.{Ok, Err}
 use Rattle.refusal.specs.Checks.{when_accepted}
-use Rattle.refusal.specs.declared.Verdict.{Verdict}
-use Rattle.refusal.specs.declared.Verdict.TheVariants.{Accepted, Refused}
+use Rattle.refusal.specs.Verdict.{Verdict}
+use Rattle.refusal.specs.Verdict.{Accepted, Refused}
 use Rattle.forms.specs.Shape.{TextOf, of_shape, not_of_shape, answer}
 use Rattle.textreading.proofs.Kind.{Kind}
 use Rattle.textreading.proofs.Answers.{read_text, accepted_answer}
@@ -110,8 +111,8 @@ module _ {A R C : Type 0} {k : Kind A R C} {Full : R → Type 0} (kept : Kept k 
       answered_full v r its q = subst Full (sym (ap k.record_in q ∙ k.record_in_lem v r)) its
 
       given : (v : Verdict) (a : A) → Full (when_accepted v (k.record_of a) k.zeros)
-      given Accepted a = kept.full a
-      given (Refused rule place) a = kept.zeros_full
+      given (Ok _) a = kept.full a
+      given (Err refusal) a = kept.zeros_full
 
       go : Answered k t → Full (k.record_in (k.read_of t))
       go (by_length h q) = answered_full _ _ kept.zeros_full q

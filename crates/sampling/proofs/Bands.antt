@@ -15,7 +15,7 @@ use Rattle.lists.proofs.Slices.{slice_next, slice_done}
 use Rattle.lists.proofs.Tests.{both_left, both_right}
 use Rattle.refusal.specs.Checks.{unless}
 use Rattle.refusal.specs.declared.Rule.TheVariants.{SamplingTable}
-use Rattle.refusal.specs.declared.Verdict.TheVariants.{Accepted, Refused}
+use Rattle.refusal.specs.Verdict.{Accepted, Refused}
 use Rattle.refusal.proofs.Firsts.{only, all_passed, test_holds}
 use Rattle.sampling.specs.declared.Band.{Band}
 use Rattle.sampling.specs.Sampling.{band}

@@ -7,7 +7,7 @@ use mathlib.Core.Path.{◌≡◌, sym, ◌∙◌}
 use lib.ListN.{get_or, take, get_or-map}
 use lib.Seq.{get_or-take}
 use Rattle.money.specs.declared.Blanks.{Blanks}
-use Rattle.refusal.specs.declared.Verdict.TheVariants.{Accepted}
+use Rattle.refusal.specs.Verdict.{Accepted}
 use Rattle.book.specs.declared.Book.{Book}
 use Rattle.book.specs.Entries.{BookEntries, book_entries}
 use Rattle.book.specs.Rules.{book_verdict}

@@ -6,7 +6,7 @@ use lib.ListN.{length, take, length-append}
 use Rattle.lists.specs.Joined.{joined}
 use Rattle.forms.specs.Digits.{digits, signed_digits}
 use Rattle.refusal.specs.Number.{number_of, place_of}
-use Rattle.refusal.specs.declared.Verdict.{Verdict}
+use Rattle.refusal.specs.Verdict.{Verdict}
 use Rattle.award.specs.declared.Row.{Row}
 use Rattle.award.specs.declared.Award.{Award}
 use Rattle.sheettext.specs.Sheet.{total_text, row_text, first_text, sheet_text, refusal_text}

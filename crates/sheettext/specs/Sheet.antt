@@ -4,7 +4,7 @@ use Rattle.lists.specs.Joined.{joined}
 use Rattle.forms.specs.Bytes.{ascii}
 use Rattle.forms.specs.Digits.{digits, signed_digits}
 use Rattle.refusal.specs.Number.{number_of, place_of}
-use Rattle.refusal.specs.declared.Verdict.{Verdict}
+use Rattle.refusal.specs.Verdict.{Verdict}
 use Rattle.award.specs.declared.Total.{Total}
 use Rattle.award.specs.declared.Total.TheVariants.{Amount, Nothing}
 use Rattle.award.specs.declared.Row.{Row}

@@ -2,7 +2,7 @@
 #![tactic(auto)]
 
 ghost use Rattle.std.specs.Prelude.{◌≡◌, ◌≤◌};
-ghost use Rattle.refusal.specs.declared.Verdict.TheVariants.{Accepted};
+ghost use Rattle.refusal.specs.Verdict.{Accepted};
 ghost use Rattle.book.specs.Entries.{book_entries};
 ghost use Rattle.book.specs.Rules.{book_verdict};
 ghost use Rattle.sizes.specs.Sizes.{choices_of, sheet_limit, refused_sizes, sizes_of};
@@ -26,7 +26,7 @@ pub fn sizes(book: Book) -> BookSizes
     ensures { result ≡ sizes_of (book_entries book) }
 {
     let verdict = bookrules::check(book);
-    if let Verdict::Refused(_, _) = verdict {
+    if let Err(_) = verdict {
         return refused(verdict);
     }
     BookSizes {

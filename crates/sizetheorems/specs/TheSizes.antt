@@ -1,7 +1,7 @@
 -- What the three figures of an accepted book tell: document 02, change 6.
 use Rattle.std.specs.Prelude.{ℕ, ◌≤◌, ◌<◌, ◌≡◌, length}
 use Rattle.refusal.specs.declared.Rule.TheVariants.{OutputLength}
-use Rattle.refusal.specs.declared.Verdict.TheVariants.{Accepted, Refused}
+use Rattle.refusal.specs.Verdict.{Accepted, Refused}
 use Rattle.book.specs.declared.Book.{Book}
 use Rattle.book.specs.Entries.{book_entries}
 use Rattle.output.specs.Writing.{not_written, all_written}

@@ -4,9 +4,10 @@ use mathlib.Core.Bool.{Bool, true, false, false≢true}
 use mathlib.Core.List.{List, [], ◌∷◌}
 use mathlib.Core.Logic.{◌↔◌}
 use mathlib.Core.Path.{◌≡◌, refl}
+use Rattle.std.specs.Prelude.{Ok, Err}
 use Rattle.refusal.specs.Checks.{when_accepted}
-use Rattle.refusal.specs.declared.Verdict.{Verdict}
-use Rattle.refusal.specs.declared.Verdict.TheVariants.{Accepted, Refused}
+use Rattle.refusal.specs.Verdict.{Verdict}
+use Rattle.refusal.specs.Verdict.{Accepted, Refused}
 use Rattle.refusal.proofs.Firsts.{all_passed, test_holds, refused_not}
 use Rattle.book.specs.Entries.{BidEntries, BookEntries}
 use Rattle.book.specs.Rules.{book_verdict}
@@ -33,8 +34,8 @@ passes line (b ∷ bs) (r ∷ rs) a = rw (a.0, passes (line + 1) bs rs a.1)
 
 -- a yes is of a split that is not refused
 yes_passed : (v : Verdict) (t : Bool) → when_accepted v t false ≡ true → (v ≡ Accepted) × (t ≡ true)
-yes_passed Accepted t e = (refl, e)
-yes_passed (Refused rule place) t e = absurd (false≢true e)
+yes_passed (Ok _) t e = (refl, e)
+yes_passed (Err refusal) t e = absurd (false≢true e)
 
 pub yes_division : (b : BookEntries) (rs : List ℕ) → book_verdict b ≡ Accepted
     → ((split_of b rs).meets ≡ true) ↔ Division b.order (supplies_of b.bids) rs

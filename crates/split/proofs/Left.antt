@@ -18,7 +18,7 @@ use Rattle.book.specs.Rules.{book_verdict}
 use Rattle.book.proofs.Records.{no_bid}
 use Rattle.book.proofs.Bids.{entries_from, entries_next, entries_done}
 use Rattle.refusal.specs.declared.Rule.TheVariants.{SplitQuantity}
-use Rattle.refusal.specs.declared.Verdict.TheVariants.{Accepted, Refused}
+use Rattle.refusal.specs.Verdict.{Accepted, Refused}
 use Rattle.supply.specs.Supply.{supply_of, supplies_of, offers, price_at}
 use Rattle.supply.specs.Allocation.{bought, cost_of}
 use Rattle.supply.specs.Meets.{meets}

@@ -9,7 +9,7 @@ use Rattle.book.specs.Rules.{book_verdict}
 use Rattle.refusal.proofs.Firsts.{only}
 use Rattle.refusal.specs.declared.Rule.{Rule}
 use Rattle.refusal.specs.declared.Rule.TheVariants.{SplitQuantity}
-use Rattle.refusal.specs.declared.Verdict.TheVariants.{Accepted, Refused}
+use Rattle.refusal.specs.Verdict.{Accepted, Refused}
 use Rattle.supply.specs.Supply.{supply_of, supplies_of, offers, price_at}
 use Rattle.supply.specs.Allocation.{bought, cost_of}
 use Rattle.split.specs.Split.{quantities_verdict, split_verdict, split_of, refused_split}

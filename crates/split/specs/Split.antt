@@ -4,8 +4,8 @@ use Rattle.book.specs.Entries.{BidEntries, BookEntries}
 use Rattle.book.specs.Rules.{book_verdict}
 use Rattle.refusal.specs.Checks.{unless, first_of, when_accepted}
 use Rattle.refusal.specs.declared.Rule.TheVariants.{SplitQuantity}
-use Rattle.refusal.specs.declared.Verdict.{Verdict}
-use Rattle.refusal.specs.declared.Verdict.TheVariants.{Accepted, Refused}
+use Rattle.refusal.specs.Verdict.{Verdict}
+use Rattle.refusal.specs.Verdict.{Accepted, Refused}
 use Rattle.supply.specs.Supply.{supply_of, supplies_of, offers}
 use Rattle.supply.specs.Allocation.{bought, cost_of}
 use Rattle.supply.specs.Meets.{meets}

@@ -5,7 +5,7 @@ ghost use Rattle.std.specs.Prelude.{◌≡◌, ◌+◌, ◌≤◌};
 ghost use Rattle.book.specs.Entries.{book_entries};
 ghost use Rattle.book.specs.Rules.{book_verdict};
 ghost use Rattle.refusal.specs.declared.Rule.TheVariants.{SplitQuantity};
-ghost use Rattle.refusal.specs.declared.Verdict.TheVariants.{Accepted, Refused};
+ghost use Rattle.refusal.specs.Verdict.{Accepted, Refused};
 ghost use Rattle.split.specs.Split.{refused_split, split_of};
 
 use book::Book;
@@ -27,7 +27,7 @@ pub fn price_split(book: Book, quantities: &[u64]) -> SplitPrice
     ensures { result ≡ split_of (book_entries book) quantities.now }
 {
     let verdict = bookrules::check(book);
-    if let Verdict::Refused(_, _) = verdict {
+    if let Err(_) = verdict {
         return refused(verdict);
     }
     price_accepted(book, quantities)
@@ -49,7 +49,7 @@ fn refused_at(i: usize) -> SplitPrice
     requires { i ≤ 8 }
     ensures { result ≡ refused_split (Refused SplitQuantity (2 + i)) }
 {
-    refused(Verdict::Refused(Rule::SplitQuantity, 2 + i as u64))
+    refused(Err(Rule::SplitQuantity.at(2 + i as u64)))
 }
 
 // The split of an accepted book.
@@ -81,7 +81,7 @@ fn price_accepted(book: Book, quantities: &[u64]) -> SplitPrice
     let order = book.order;
     let meets = supply::meets(order, Blanks(sum));
     SplitPrice {
-        verdict: Verdict::Accepted,
+        verdict: Ok(()),
         price,
         meets,
     }

@@ -1,7 +1,7 @@
 -- What is answered about the text of a sampling table, and the printed table as text. `size` is the length of the lent output and `out` its
 -- bytes.
 use Rattle.std.specs.Prelude.{ℕ, List}
-use Rattle.refusal.specs.declared.Verdict.TheVariants.{Accepted}
+use Rattle.refusal.specs.Verdict.{Accepted}
 use Rattle.output.specs.declared.TextWritten.{TextWritten}
 use Rattle.output.specs.Writing.{written_of, output_after}
 use Rattle.sampling.specs.Entries.{TableEntries, table_entries}

@@ -14,7 +14,7 @@ pub fn write_table(text: &[u8], out: &mut [u8]) -> TextWritten
 {
     let read = tablereader::read(text);
     let verdict = read.verdict;
-    if let Verdict::Refused(_, _) = verdict {
+    if let Err(_) = verdict {
         return output::refused(verdict);
     }
     let table = read.table;

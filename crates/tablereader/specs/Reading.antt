@@ -3,7 +3,7 @@ use Rattle.std.specs.Prelude.{ℕ, cond, List, leb, length}
 use Rattle.refusal.specs.Checks.{when_accepted}
 use Rattle.refusal.specs.declared.Rule.{Rule}
 use Rattle.refusal.specs.declared.Rule.TheVariants.{TextLength, Shape}
-use Rattle.refusal.specs.declared.Verdict.TheVariants.{Accepted, Refused}
+use Rattle.refusal.specs.Verdict.{Accepted, Refused}
 use Rattle.forms.specs.Shape.{answer}
 use Rattle.sampling.specs.Entries.{TableEntries, table_entries}
 use Rattle.sampling.specs.Sampling.{printed_table}

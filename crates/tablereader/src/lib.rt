@@ -19,7 +19,7 @@ fn refused(rule: Rule, place: u64) -> TableRead
     ensures { result ≡ refused_table rule place }
 {
     TableRead {
-        verdict: Verdict::Refused(rule, place),
+        verdict: Err(rule.at(place)),
         table: tablelines::empty_table(),
     }
 }
@@ -47,8 +47,8 @@ pub fn read(text: &[u8]) -> TableRead
     }
     let table = parsed.table;
     let verdict = tablerules::check(table);
-    if let Verdict::Refused(rule, line) = verdict {
-        return refused(rule, line);
+    if let Err(refusal) = verdict {
+        return refused(refusal.rule, refusal.place);
     }
     TableRead { verdict, table }
 }

@@ -15,7 +15,7 @@ use lib.ListN.{length, get_or}
 use lib.Seq.{slice, take_all, length-take-le}
 use Rattle.lists.specs.All.{All}
 use Rattle.lists.proofs.All.{all_indexed}
-use Rattle.refusal.specs.declared.Verdict.TheVariants.{Accepted}
+use Rattle.refusal.specs.Verdict.{Accepted}
 use Rattle.refusal.proofs.Firsts.{all_passed, test_holds}
 use Rattle.sampling.specs.declared.Band.{Band}
 use Rattle.sampling.specs.declared.Table.{Table}

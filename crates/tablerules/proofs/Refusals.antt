@@ -7,12 +7,13 @@ use mathlib.Core.Path.{◌≡◌, refl, subst}
 use borrow.Author.Tests.{leb-true, ltb-true}
 use lib.Dec.{leb, ltb, eqb}
 use lib.ListN.{length}
+use Rattle.std.specs.Prelude.{Ok, Err}
 use Rattle.lists.proofs.Slices.{take_most}
 use Rattle.refusal.specs.Checks.{unless, first_of}
 use Rattle.refusal.specs.declared.Rule.{Rule}
 use Rattle.refusal.specs.declared.Rule.TheVariants.{SamplingTable}
-use Rattle.refusal.specs.declared.Verdict.{Verdict}
-use Rattle.refusal.specs.declared.Verdict.TheVariants.{Accepted, Refused}
+use Rattle.refusal.specs.Verdict.{Verdict}
+use Rattle.refusal.specs.Verdict.{Accepted, Refused}
 use Rattle.refusal.proofs.Firsts.{test_holds}
 use Rattle.refusal.proofs.Refusals.{RefusedBy, by_first, by_unless}
 use Rattle.sampling.specs.declared.Band.{Band}
@@ -28,8 +29,8 @@ InTurn P (v ∷ checks) = RefusedBy P v × (v ≡ Accepted → InTurn P checks)
 
 in_turn : (P : Rule → ℕ → Type 0) (checks : List Verdict) → InTurn P checks → RefusedBy P (first_of checks)
 in_turn P [] h = tt
-in_turn P (Accepted ∷ checks) h = in_turn P checks (h.1 refl)
-in_turn P (Refused rule place ∷ checks) h = h.0
+in_turn P (Ok _ ∷ checks) h = in_turn P checks (h.1 refl)
+in_turn P (Err refusal ∷ checks) h = h.0
 
 module _ (t : TableEntries) where
   abbrev On : Rule → ℕ → Type 0

@@ -17,20 +17,20 @@ pub fn check(table: Table) -> Verdict
 {
     let count = table.count;
     if count == 0 {
-        return Verdict::Refused(Rule::SamplingTable, 1);
+        return Err(Rule::SamplingTable.at(1));
     }
     let verdict = lines::check_bands(table);
-    if let Verdict::Refused(_, _) = verdict {
+    if let Err(_) = verdict {
         return verdict;
     }
     let too_many = 16 < count;
     if too_many {
-        return Verdict::Refused(Rule::SamplingTable, 17);
+        return Err(Rule::SamplingTable.at(17));
     }
     let last = table.bands[count - 1];
     let ends_early = last.highest < 1_000_000;
     if ends_early {
-        return Verdict::Refused(Rule::SamplingTable, count as u64);
+        return Err(Rule::SamplingTable.at(count as u64));
     }
-    Verdict::Accepted
+    Ok(())
 }

@@ -44,11 +44,11 @@ pub fn check_bands(table: Table) -> Verdict
     while i < n {
         let band = table.bands[i];
         if !keeps(before, band) {
-            return Verdict::Refused(Rule::SamplingTable, line);
+            return Err(Rule::SamplingTable.at(line));
         }
         before = band;
         line += 1;
         i += 1;
     }
-    Verdict::Accepted
+    Ok(())
 }

@@ -5,7 +5,7 @@ use mathlib.Core.Path.{◌≡◌, sym}
 use lib.ListN.{length, length-append}
 use Rattle.lists.proofs.All.{all_from}
 use Rattle.lists.proofs.Joined.{joined_short}
-use Rattle.refusal.specs.declared.Verdict.TheVariants.{Accepted}
+use Rattle.refusal.specs.Verdict.{Accepted}
 use Rattle.forms.proofs.Digits.{length_below, few_digits}
 use Rattle.sampling.specs.declared.Band.{Band}
 use Rattle.sampling.specs.declared.Table.{Table}

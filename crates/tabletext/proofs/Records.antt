@@ -6,7 +6,7 @@ use lib.ListN.{take, replicate}
 use lib.Seq.{take_all, take_at}
 use Rattle.lists.specs.Padded.{padded}
 use Rattle.lists.proofs.Padded.{length_padded, take_count}
-use Rattle.refusal.specs.declared.Verdict.TheVariants.{Accepted}
+use Rattle.refusal.specs.Verdict.{Accepted}
 use Rattle.sampling.specs.declared.Table.{Table}
 use Rattle.sampling.specs.Entries.{TableEntries, table_entries}
 use Rattle.sampling.specs.Rules.{table_verdict}

@@ -1,6 +1,6 @@
 -- Writing a sampling table: what every record and every lent output gets.
 use Rattle.std.specs.Prelude.{ℕ, List}
-use Rattle.refusal.specs.declared.Verdict.{Verdict}
+use Rattle.refusal.specs.Verdict.{Verdict}
 use Rattle.output.specs.declared.TextWritten.{TextWritten}
 use Rattle.output.specs.Writing.{writing_verdict, written_of, output_after}
 use Rattle.sampling.specs.declared.Table.{Table}

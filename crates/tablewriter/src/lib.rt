@@ -16,7 +16,7 @@ pub fn write(table: Table, out: &mut [u8]) -> TextWritten
     ensures out_after { out.new ≡ table_output_of table out.old }
 {
     let verdict = tablerules::check(table);
-    if let Verdict::Refused(_, _) = verdict {
+    if let Err(_) = verdict {
         return output::refused(verdict);
     }
     let mut nowhere = [0u8; 1];

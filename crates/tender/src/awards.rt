@@ -14,7 +14,7 @@ pub fn clear_sampled(table: Table, text: &[u8]) -> Clearing
 {
     let read = bookreader::read(text);
     let verdict = read.verdict;
-    if let Verdict::Refused(_, _) = verdict {
+    if let Err(_) = verdict {
         return clearing::refused(verdict);
     }
     let book = read.book;

@@ -18,7 +18,7 @@ pub fn clear_by_table(table: &[u8], text: &[u8]) -> Clearing
 {
     let read = tablereader::read(table);
     let verdict = read.verdict;
-    if let Verdict::Refused(_, _) = verdict {
+    if let Err(_) = verdict {
         return clearing::refused(verdict);
     }
     let loaded = read.table;

@@ -12,7 +12,7 @@ pub fn too_dear(text: &[u8], bidder: u64) -> TooDear
 {
     let read = bookreader::read(text);
     let verdict = read.verdict;
-    if let Verdict::Refused(_, _) = verdict {
+    if let Err(_) = verdict {
         return toodear::no_amount(verdict);
     }
     let book = read.book;

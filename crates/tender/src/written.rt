@@ -16,7 +16,7 @@ pub fn write_as(layout: Layout, cleared: Clearing, out: &mut [u8]) -> TextWritte
     ensures out_after { out.new ≡ output_as (layout_text layout) cleared out.old }
 {
     let verdict = cleared.verdict;
-    if let Verdict::Refused(_, _) = verdict {
+    if let Err(_) = verdict {
         return output::refused(verdict);
     }
     let award = cleared.award;

@@ -10,8 +10,8 @@ use lib.Seq.{drop-cons}
 use Rattle.refusal.specs.Checks.{when_accepted}
 use Rattle.refusal.specs.declared.Rule.{Rule}
 use Rattle.refusal.specs.declared.Rule.TheVariants.{TextLength, Shape}
-use Rattle.refusal.specs.declared.Verdict.{Verdict}
-use Rattle.refusal.specs.declared.Verdict.TheVariants.{Accepted, Refused}
+use Rattle.refusal.specs.Verdict.{Verdict}
+use Rattle.refusal.specs.Verdict.{Accepted, Refused}
 use Rattle.forms.specs.Form.{parsed, stopped}
 use Rattle.forms.specs.Shape.{TextOf, Longest, of_shape, not_of_shape, answer}
 use Rattle.forms.specs.Place.{Found, Stops}

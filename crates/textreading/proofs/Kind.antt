@@ -8,8 +8,8 @@ use lib.ListN.{length}
 use Rattle.refusal.specs.Checks.{when_accepted}
 use Rattle.refusal.specs.declared.Rule.{Rule}
 use Rattle.refusal.specs.declared.Rule.TheVariants.{TextLength, Shape}
-use Rattle.refusal.specs.declared.Verdict.{Verdict}
-use Rattle.refusal.specs.declared.Verdict.TheVariants.{Refused}
+use Rattle.refusal.specs.Verdict.{Verdict}
+use Rattle.refusal.specs.Verdict.{Refused}
 use Rattle.forms.specs.Form.{Form}
 use Rattle.forms.specs.Shape.{Reading, answer}
 use Rattle.forms.proofs.Form.{Laws}

@@ -11,8 +11,8 @@ use Rattle.refusal.specs.Checks.{when_accepted}
 use Rattle.refusal.specs.Number.{number_of}
 use Rattle.refusal.specs.declared.Rule.{Rule}
 use Rattle.refusal.specs.declared.Rule.TheVariants.{TextLength, Shape}
-use Rattle.refusal.specs.declared.Verdict.{Verdict}
-use Rattle.refusal.specs.declared.Verdict.TheVariants.{Accepted, Refused}
+use Rattle.refusal.specs.Verdict.{Verdict}
+use Rattle.refusal.specs.Verdict.{Accepted, Refused}
 use Rattle.refusal.proofs.Firsts.{refused_not}
 use Rattle.refusal.proofs.Refusals.{RefusedBy}
 use Rattle.forms.specs.Shape.{TextOf, Longest, of_shape, not_of_shape, answer}

@@ -14,8 +14,8 @@ use Rattle.lists.proofs.Least.{none_found, least_found}
 use Rattle.refusal.specs.Checks.{unless, when_accepted}
 use Rattle.refusal.specs.declared.Rule.{Rule}
 use Rattle.refusal.specs.declared.Rule.TheVariants.{NotCovered, UnknownBidder}
-use Rattle.refusal.specs.declared.Verdict.{Verdict}
-use Rattle.refusal.specs.declared.Verdict.TheVariants.{Accepted, Refused}
+use Rattle.refusal.specs.Verdict.{Verdict}
+use Rattle.refusal.specs.Verdict.{Accepted, Refused}
 use Rattle.refusal.proofs.Firsts.{only}
 use Rattle.book.specs.Entries.{BookEntries, bid_entries}
 use Rattle.book.specs.Rules.{book_verdict}

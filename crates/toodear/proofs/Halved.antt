@@ -8,7 +8,7 @@ use lib.ListN.{get_or}
 use Rattle.lists.specs.Least.{Least}
 use Rattle.lists.proofs.Tests.{both_hold}
 use Rattle.lists.proofs.Halving.{Rises}
-use Rattle.refusal.specs.declared.Verdict.TheVariants.{Accepted}
+use Rattle.refusal.specs.Verdict.{Accepted}
 use Rattle.book.specs.declared.Book.{Book}
 use Rattle.book.specs.Entries.{BookEntries, bid_entries, book_entries}
 use Rattle.book.specs.Rules.{book_verdict}

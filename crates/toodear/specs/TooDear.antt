@@ -5,7 +5,7 @@ use Rattle.lists.specs.Any.{any}
 use Rattle.lists.specs.Least.{first_from}
 use Rattle.refusal.specs.Checks.{unless, first_of, when_accepted}
 use Rattle.refusal.specs.declared.Rule.TheVariants.{NotCovered, UnknownBidder}
-use Rattle.refusal.specs.declared.Verdict.{Verdict}
+use Rattle.refusal.specs.Verdict.{Verdict}
 use Rattle.book.specs.Entries.{BidEntries, BookEntries}
 use Rattle.book.specs.Rules.{book_verdict}
 use Rattle.divisions.specs.Award.{Priced, award_of_book}

@@ -2,7 +2,7 @@
 #![tactic(auto)]
 
 ghost use Rattle.std.specs.Prelude.{◌≡◌};
-ghost use Rattle.refusal.specs.declared.Verdict.TheVariants.{Accepted};
+ghost use Rattle.refusal.specs.Verdict.{Accepted};
 ghost use Rattle.book.specs.Entries.{book_entries};
 ghost use Rattle.book.specs.Rules.{book_verdict};
 ghost use Rattle.toodear.specs.TooDear.{no_amount, too_dear_of};
@@ -71,15 +71,15 @@ fn for_bid(book: Book, at: usize) -> TooDear
     let most = discount::largest(bid);
     let best = discounts::best_off(book, at, most);
     if !best.found {
-        return no_amount(Verdict::Refused(Rule::NotCovered, 0));
+        return no_amount(Err(Rule::NotCovered.at(0)));
     }
     let quantity = best.quantities[at];
     if quantity.0 == 0 {
-        return no_amount(Verdict::Accepted);
+        return no_amount(Ok(()));
     }
     let cents = discounts::smallest(book, at, most);
     TooDear {
-        verdict: Verdict::Accepted,
+        verdict: Ok(()),
         discount: Discount::Amount(CentsPerBlank(cents)),
     }
 }
@@ -90,12 +90,12 @@ pub fn too_dear(book: Book, bidder: u64) -> TooDear
     ensures { result ≡ too_dear_of (book_entries book) bidder }
 {
     let verdict = bookrules::check(book);
-    if let Verdict::Refused(_, _) = verdict {
+    if let Err(_) = verdict {
         return no_amount(verdict);
     }
     let place = find(book, bidder);
     let Place::At(at) = place else {
-        return no_amount(Verdict::Refused(Rule::UnknownBidder, 0));
+        return no_amount(Err(Rule::UnknownBidder.at(0)));
     };
     for_bid(book, at)
 }

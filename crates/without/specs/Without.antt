@@ -1,7 +1,7 @@
 -- The total without a bidder: document 01, section "The sheet", with the order of the book (document 02, change 5).
 use Rattle.std.specs.Prelude.{ℕ, suc, ◌-◌, ◌≤◌, ◌<◌, ◌++◌, ◌≡◌, take, drop}
 use Rattle.std.proofs.Math.Option.{Option, some, none}
-use Rattle.refusal.specs.declared.Verdict.TheVariants.{Accepted}
+use Rattle.refusal.specs.Verdict.{Accepted}
 use Rattle.book.specs.declared.Book.{Book}
 use Rattle.book.specs.Entries.{BookEntries, book_entries}
 use Rattle.book.specs.Rules.{book_verdict}

@@ -4,13 +4,14 @@ use Prim.Native.Nat.{ℕ, suc}
 use mathlib.Core.List.{List, [], ◌∷◌}
 use mathlib.Core.Option.{Option, some, none}
 use mathlib.Core.Path.{◌≡◌, refl, ap, ap₂, ◌∙◌}
+use Rattle.std.specs.Prelude.{Ok, Err}
 use Rattle.lists.specs.All.{All}
 use Rattle.lists.specs.Padded.{padded}
 use Rattle.lists.proofs.Removed.{all_removed}
 use Rattle.refusal.specs.Checks.{when_accepted}
 use Rattle.refusal.specs.declared.Rule.TheVariants.{NotCovered}
-use Rattle.refusal.specs.declared.Verdict.{Verdict}
-use Rattle.refusal.specs.declared.Verdict.TheVariants.{Accepted, Refused}
+use Rattle.refusal.specs.Verdict.{Verdict}
+use Rattle.refusal.specs.Verdict.{Accepted, Refused}
 use Rattle.book.specs.Entries.{BidEntries, BookEntries}
 use Rattle.book.specs.Rules.{book_verdict}
 use Rattle.book.specs.Accepted.{AcceptedBid}
@@ -93,7 +94,7 @@ unfolding clear_sampled
 model_is table b = go (book_verdict b) refl
   where
     go : (v : Verdict) → book_verdict b ≡ v → model_of table b ≡ clear_sampled table b
-    go Accepted e =
+    go (Ok _) e =
         let bids = all_accepted b e in
         rw e (ap (model_cleared table b) (found b bids) ∙ answers table b bids (award_of_book b))
-    go (Refused rule line) e = rw e
+    go (Err refusal) e = rw e

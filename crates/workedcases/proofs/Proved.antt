@@ -4,10 +4,11 @@ use Prim.Native.Nat.{ℕ}
 use mathlib.Core.Bool.{true, false≢true}
 use mathlib.Core.List.{List, [], ◌∷◌}
 use mathlib.Core.Path.{◌≡◌, refl, sym, ap, ◌∙◌}
+use Rattle.std.specs.Prelude.{Ok, Err}
 use Rattle.lists.specs.All.{All}
 use Rattle.lists.proofs.Tests.{both_left, both_right}
-use Rattle.refusal.specs.declared.Verdict.{Verdict}
-use Rattle.refusal.specs.declared.Verdict.TheVariants.{Accepted, Refused}
+use Rattle.refusal.specs.Verdict.{Verdict}
+use Rattle.refusal.specs.Verdict.{Accepted, Refused}
 use Rattle.book.specs.Entries.{BookEntries, book_entries}
 use Rattle.book.specs.Rules.{book_verdict}
 use Rattle.booktext.specs.Record.{book_record}
@@ -31,10 +32,10 @@ module _ (t : List ℕ) (b : BookEntries) (read : read_of t ≡ book_answer b) (
   cleared_as = go (book_verdict (book_entries (book_record b))) refl
     where
       go : (v : Verdict) → book_verdict (book_entries (book_record b)) ≡ v → clear_text t ≡ clear_of b
-      go Accepted e = rw (read ∙ accepted_answer b e) (ap clear_of fits)
-      go (Refused rule line) e =
-          let told : (read_of t).verdict ≡ Refused rule line = ap (λ (r : BookRead). r.verdict) read ∙ e in
-          rw told (sym (rules_first printed_table b rule line (ap book_verdict (sym fits) ∙ e)))
+      go (Ok _) e = rw (read ∙ accepted_answer b e) (ap clear_of fits)
+      go (Err refusal) e =
+          let told : (read_of t).verdict ≡ Refused refusal.rule refusal.place = ap (λ (r : BookRead). r.verdict) read ∙ e in
+          rw told (sym (rules_first printed_table b refusal.rule refusal.place (ap book_verdict (sym fits) ∙ e)))
 
 case_proved : (c : Case) (b : BookEntries) → Passed c b → clear_prints c.text ≡ c.printed
 unfolding printed_as

@@ -1,7 +1,7 @@
 -- Measured by putting it into one byte; where it fits it is put again, and else refused by rule 10. Assumes nothing.
 use Rattle.std.proofs.Common.{refl, arith}
 use Rattle.output.proofs.Answers.{too_short, in_full}
-use Rattle.refusal.specs.declared.Verdict.TheVariants.{Accepted}
+use Rattle.refusal.specs.Verdict.{Accepted}
 use Rattle.awardwriter.specs.Layout.{layout_text}
 use Rattle.awardwriter.proofs.write.Goals as goal
 

@@ -1,6 +1,6 @@
 -- A book that breaks a rule is refused; else its text is measured, and put where it fits.
 use Rattle.std.proofs.Common.{sym, arith}
-use Rattle.refusal.specs.declared.Verdict.{Verdict}
+use Rattle.refusal.specs.Verdict.{Verdict}
 use Rattle.book.specs.declared.Book.{Book}
 use Rattle.book.specs.Entries.{book_entries}
 use Rattle.book.specs.Rules.{book_verdict}

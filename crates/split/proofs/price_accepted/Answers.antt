@@ -6,7 +6,7 @@ use Rattle.book.specs.Accepted.{AcceptedBid}
 use Rattle.book.proofs.Records.{no_bid}
 use Rattle.book.proofs.Accepted.{few_bids, bid_at_lem}
 use Rattle.refusal.specs.declared.Rule.TheVariants.{SplitQuantity}
-use Rattle.refusal.specs.declared.Verdict.TheVariants.{Refused}
+use Rattle.refusal.specs.Verdict.{Refused}
 use Rattle.supply.specs.Supply.{supply_of, offers, price_at}
 use Rattle.supply.proofs.Offers.{offered, not_offered}
 use Rattle.supply.proofs.Accepted.{supply_small}

@@ -1,6 +1,6 @@
 -- The printed table passes, so only a short output is refused.
 use Rattle.std.proofs.Common.{refl, ap, ◌∙◌}
-use Rattle.refusal.specs.declared.Verdict.TheVariants.{Accepted}
+use Rattle.refusal.specs.Verdict.{Accepted}
 use Rattle.output.proofs.Cases.{text_written}
 use Rattle.sampling.specs.Rules.{table_verdict}
 use Rattle.sampling.specs.Entries.{TableEntries}

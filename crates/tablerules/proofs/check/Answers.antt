@@ -2,7 +2,7 @@
 use Rattle.std.proofs.Common.{◌≡◌, ◌≤◌, ◌-◌, ℕ, length, get_or, sym, ◌∙◌, arith}
 use borrow.Author.Tests.{lt-ltb, le-leb, eq-eqb, ne_eqb}
 use Rattle.lists.proofs.Slices.{length_held}
-use Rattle.refusal.specs.declared.Verdict.TheVariants.{Accepted}
+use Rattle.refusal.specs.Verdict.{Accepted}
 use Rattle.sampling.specs.Entries.{table_entries}
 use Rattle.sampling.specs.Sampling.{band}
 use Rattle.sampling.specs.Rules.{bands_verdict, last_highest, table_verdict}

@@ -1,6 +1,6 @@
 -- A table that breaks rule 12 is refused; else its text is measured by putting it into one byte, and put again where it fits.
 use Rattle.std.proofs.Common.{sym, arith}
-use Rattle.refusal.specs.declared.Verdict.{Verdict}
+use Rattle.refusal.specs.Verdict.{Verdict}
 use Rattle.output.proofs.Answers.{refused_before, too_short, in_full}
 use Rattle.sampling.specs.Entries.{table_entries}
 use Rattle.sampling.specs.Rules.{table_verdict}

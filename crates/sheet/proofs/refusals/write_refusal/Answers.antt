@@ -2,7 +2,7 @@
 use Rattle.std.proofs.Common.{refl, arith}
 use Rattle.output.proofs.Answers.{too_short, in_full}
 use Rattle.printer.proofs.Put.{put_as}
-use Rattle.refusal.specs.declared.Verdict.TheVariants.{Accepted, Refused}
+use Rattle.refusal.specs.Verdict.{Accepted, Refused}
 use Rattle.sheettext.specs.Sheet.{refusal_text}
 use Rattle.sheet.proofs.refusals.write_refusal.Goals as goal
 
