@@ -3,17 +3,26 @@ use Prim.Native.Nat.{ℕ}
 use native.Mathlib.Omega.{arith}
 use mathlib.Core.Bool.{Bool, true, false}
 use mathlib.Core.List.{List, [], ◌∷◌}
-use mathlib.Core.Path.{◌≡◌, refl}
+use mathlib.Core.Path.{◌≡◌, refl, ap}
 use Rattle.std.specs.Prelude.{Ok, Err}
 use Rattle.lists.specs.All.{All}
 use Rattle.refusal.specs.declared.Rule.{Rule}
 use Rattle.refusal.specs.Verdict.{Verdict}
 use Rattle.refusal.specs.Verdict.{Accepted, Refused}
 use Rattle.refusal.specs.Checks.{unless, first_of}
+use Rattle.refusal.specs.Number.{place_of}
 
 -- no refusal is an acceptance
 pub refused_not : {A : Type 0} {rule : Rule} {place : ℕ} → Refused rule place ≡ Accepted → A
 refused_not e = let z : ◌≡◌ {A = ℕ} 0 1 = cc in absurd (omega arith)
+
+-- equal refusals are by the same rule, at the same place
+pub same_refusal : {r s : Rule} {n m : ℕ} → Refused r n ≡ Refused s m → (r ≡ s) × (n ≡ m)
+same_refusal {r} {s} {n} {m} e = (ap rule_told e, ap place_of e)
+  where
+    rule_told : Verdict → Rule
+    rule_told (Ok _) = r
+    rule_told (Err refusal) = refusal.rule
 
 pub only : (v : Verdict) → first_of (v ∷ []) ≡ v
 only (Ok _) = refl

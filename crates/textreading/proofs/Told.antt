@@ -13,7 +13,7 @@ use Rattle.refusal.specs.declared.Rule.{Rule}
 use Rattle.refusal.specs.declared.Rule.TheVariants.{TextLength, Shape}
 use Rattle.refusal.specs.Verdict.{Verdict}
 use Rattle.refusal.specs.Verdict.{Accepted, Refused}
-use Rattle.refusal.proofs.Firsts.{refused_not}
+use Rattle.refusal.proofs.Firsts.{refused_not, same_refusal}
 use Rattle.refusal.proofs.Refusals.{RefusedBy}
 use Rattle.forms.specs.Shape.{TextOf, Longest, of_shape, not_of_shape, answer}
 use Rattle.textreading.proofs.Kind.{Kind, refused_by, Whole, answered}
@@ -96,11 +96,8 @@ module _ {A R C : Type 0} (k : Kind A R C) where
     unfolding answer
     refused_place not_shape n e = go read_answered
       where
-        same : (m : ℕ) → Refused Shape m ≡ Refused Shape n → m ≡ n
-        same m i = cc
-
         go : Answered t → (length t ≤ 4096) × ((a : A) → TextOf k.form.Valid k.form.text t a → ⊥) × Longest k.form.Valid k.form.text t n
         go (by_length h q) = absurd (omega (arith, ap number_of (refused_says TextLength 4096 (Refused Shape n) q e)))
         go (by_reading h (of_shape a it) q) = absurd (not_shape (k.entries_of (k.record_of a)) n (entries_say a (Refused Shape n) q e))
         go (by_reading h (not_of_shape m none it) q) =
-            (h, none, subst (Longest k.form.Valid k.form.text t) (same m (refused_says Shape m (Refused Shape n) q e)) it)
+            (h, none, subst (Longest k.form.Valid k.form.text t) (same_refusal (refused_says Shape m (Refused Shape n) q e)).1 it)
