@@ -1,5 +1,5 @@
 -- Complete choices that fit and divisions: each such choice gives a division, and for each division one gives one at least as good. Assumes nothing.
-use Prim.Native.Nat.{ℕ, ◌+◌, ◌-◌, ◌≤◌}
+use Prim.Native.Nat.{ℕ, ◌+◌, ◌≤◌}
 use native.Mathlib.Omega.{arith}
 use mathlib.Core.Bool.{true}
 use mathlib.Core.List.{List, [], ◌∷◌, reverse_aux, reverse, Memᴰ as In}
