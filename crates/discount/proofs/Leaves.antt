@@ -12,7 +12,7 @@ use Rattle.lists.proofs.Everywhere.{every_both, every_map}
 use Rattle.refusal.specs.Checks.{unless, when_accepted}
 use Rattle.refusal.specs.declared.Rule.{Rule}
 use Rattle.refusal.specs.Verdict.{Verdict}
-use Rattle.refusal.specs.Verdict.{Accepted, Refused}
+use Rattle.refusal.specs.Verdict.{Accepted}
 use Rattle.book.specs.declared.Segment.{Segment}
 use Rattle.book.specs.Entries.{BidEntries, BookEntries}
 use Rattle.book.specs.Rules.{start_not_negative, book_verdict}

@@ -6,11 +6,10 @@ use mathlib.Core.List.{List}
 use mathlib.Core.Path.{◌≡◌, refl, ap, ◌∙◌}
 use borrow.Author.Tests.{leb-true, le-leb}
 use lib.Dec.{leb}
-use lib.ListN.{length, get_or}
-use lib.Seq.{slice}
+use lib.ListN.{length, get_or, drop}
 use Rattle.lists.specs.Every.{every}
 use Rattle.lists.proofs.Tests.{both_left, both_hold}
-use Rattle.lists.proofs.Slices.{slice_next}
+use Rattle.lists.proofs.Slices.{drop_next}
 use Rattle.lists.proofs.Everywhere.{every_at}
 use Rattle.book.specs.declared.Segment.{Segment}
 use Rattle.book.specs.Rules.{segment_in_range, start_not_negative}
@@ -27,12 +26,12 @@ moved false true c = refl
 moved false false c = refl
 
 -- a turn: one segment fewer is left, and the smaller of two numbers kept
-pub largest_next : (ss : List Segment) (i n most off cents : ℕ) → i < n → n ≤ length ss → MostOff (get_or ss i no_segment) off
-    → every (takes cents) (slice i n ss) && leb cents most ≡ every (takes cents) (slice (i + 1) n ss) && leb cents (min off most)
+pub largest_next : (ss : List Segment) (i most off cents : ℕ) → i < length ss → MostOff (get_or ss i no_segment) off
+    → every (takes cents) (drop i ss) && leb cents most ≡ every (takes cents) (drop (i + 1) ss) && leb cents (min off most)
 unfolding every
-largest_next ss i n most off cents h k is =
-    let rest = every (takes cents) (slice (i + 1) n ss) in
-    ap (λ (l : List Segment). every (takes cents) l && leb cents most) (slice_next ss i n no_segment h k)
+largest_next ss i most off cents h is =
+    let rest = every (takes cents) (drop (i + 1) ss) in
+    ap (λ (l : List Segment). every (takes cents) l && leb cents most) (drop_next ss i no_segment h)
     ∙ ap (λ (b : Bool). (b && rest) && leb cents most) (is cents)
     ∙ moved (leb cents off) rest (leb cents most)
     ∙ ap (λ (b : Bool). rest && b) (at_most_both cents off most)

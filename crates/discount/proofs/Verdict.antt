@@ -16,7 +16,7 @@ use Rattle.lists.proofs.Everywhere.{every_map, every_all}
 use Rattle.refusal.specs.Checks.{unless, first_of}
 use Rattle.refusal.specs.declared.Rule.TheVariants.{BidCount, Range, NegativePrice}
 use Rattle.refusal.specs.Verdict.{Verdict}
-use Rattle.refusal.specs.Verdict.{Accepted, Refused}
+use Rattle.refusal.specs.Verdict.{Accepted}
 use Rattle.refusal.proofs.Firsts.{all_passed, test_holds, only}
 use Rattle.book.specs.declared.Segment.{Segment}
 use Rattle.book.specs.Entries.{BidEntries, BookEntries}

@@ -1,7 +1,7 @@
 // A discount: so many cents off the unit price of all segments of a bid, and the largest that leaves an accepted book.
 #![tactic(auto)]
 
-ghost use Rattle.std.specs.Prelude.{◌≡◌, ◌≤◌, min};
+ghost use Rattle.std.specs.Prelude.{◌≡◌, ◌≤◌};
 ghost use Rattle.book.specs.Entries.{bid_entries};
 ghost use Rattle.book.specs.Accepted.{AcceptedBid};
 ghost use Rattle.discount.specs.Discount.{segment_off, bid_off};
@@ -10,27 +10,15 @@ ghost use Rattle.discount.specs.Asked.{KeepsRules, MostOff, Largest, BidHas, Can
 use book::{Bid, Book, Segment};
 use money::CentsPerBlank;
 
-fn smaller(a: u64, b: u64) -> u64
-    ensures { result ≡ min a b }
-{
-    if a < b {
-        return a;
-    }
-    b
-}
-
 // The most that can be taken off a segment: no more than its unit price, by rule 5, and than its price at the start has for each
 // blank, by rule 8.
 fn most_off(s: Segment) -> u64
     requires { KeepsRules s }
     ensures { MostOff s result }
 {
-    let unit = s.unit;
-    let start = s.start;
-    let fixed = s.fixed;
-    let price = money::price(unit, start, fixed);
-    let for_each = money::magnitude(price) / start.0;
-    smaller(unit.0, for_each)
+    let price = money::price(s.unit, s.start, s.fixed);
+    let for_each = money::magnitude(price) / s.start.0;
+    s.unit.0.min(for_each)
 }
 
 // The largest discount of a bid of an accepted book that leaves it accepted: each up to it does, and none above it. It is pub, as
@@ -41,11 +29,8 @@ pub fn largest(bid: Bid) -> u64
     ensures upper_bound { result ≤ 1000000 }
 {
     let mut most: u64 = 1_000_000;
-    let mut i: usize = 0;
-    while i < bid.count {
-        let s = bid.segments[i];
-        most = smaller(most_off(s), most);
-        i += 1;
+    for s in bid.listed() {
+        most = most_off(*s).min(most);
     }
     most
 }
@@ -55,16 +40,8 @@ fn segment_off(s: Segment, cents: u64) -> Segment
     requires { cents ≤ s.unit.0 }
     ensures { result ≡ segment_off cents s }
 {
-    let start = s.start;
-    let end = s.end;
     let unit = CentsPerBlank(s.unit.0 - cents);
-    let fixed = s.fixed;
-    Segment {
-        start,
-        end,
-        unit,
-        fixed,
-    }
+    Segment { unit, ..s }
 }
 
 // The bid with so many cents off each unit price.
@@ -73,11 +50,8 @@ fn bid_off(bid: Bid, cents: u64) -> Bid
     ensures { bid_entries result ≡ bid_off cents (bid_entries bid) }
 {
     let mut cheaper = bid;
-    let mut i: usize = 0;
-    while i < bid.count {
-        let s = bid.segments[i];
-        cheaper.segments[i] = segment_off(s, cents);
-        i += 1;
+    for i in 0..bid.count {
+        cheaper.segments[i] = segment_off(bid.segments[i], cents);
     }
     cheaper
 }

@@ -1,10 +1,6 @@
 -- The segments passed have their cents off, and the others are as they were.
-use Rattle.std.proofs.Common.{◌-◌}
 use Rattle.discount.proofs.Lowered.{Lowered}
 use Rattle.discount.proofs.bid_off.Given as goal
 
 abbrev pub invariant-loop-i : goal.invariant-loop-i
 invariant-loop-i l = Lowered l.cents l.bid l.cheaper l.i
-
-abbrev pub decreases-loop-i : goal.decreases-loop-i
-decreases-loop-i l = l.bid.count - l.i

@@ -1,16 +1,12 @@
+-- So many cents can be taken off each segment, and so much is left of a unit price, exactly if they can be taken off those not yet
+-- passed, and are at most `most`.
 use lib.Dec.{leb}
-use lib.Seq.{slice}
-use Rattle.std.proofs.Common.{◌-◌, ◌≡◌, ◌≤◌, ◌&&◌, ℕ}
+use Rattle.std.proofs.Common.{◌≡◌, ◌≤◌, ◌&&◌, ℕ, drop}
 use Rattle.lists.specs.Every.{every}
-use Rattle.book.specs.Entries.{bid_entries}
 use Rattle.discount.specs.Asked.{takes}
 use Rattle.discount.proofs.largest.Given as goal
 
-abbrev pub invariant-loop-i : goal.invariant-loop-i
-invariant-loop-i l =
-    (l.i ≤ l.bid.count)
-    × (l.most ≤ 1000000)
-    × ((cents : ℕ) → every (takes cents) (bid_entries l.bid).segments && leb cents 1000000 ≡ every (takes cents) (slice l.i l.bid.count l.bid.segments) && leb cents l.most)
-
-abbrev pub decreases-loop-i : goal.decreases-loop-i
-decreases-loop-i l = l.bid.count - l.i
+abbrev pub invariant-loop-s : goal.invariant-loop-s
+invariant-loop-s l =
+    (l.most ≤ 1000000)
+    × ((cents : ℕ) → every (takes cents) l.s-items && leb cents 1000000 ≡ every (takes cents) (drop l.s-index l.s-items) && leb cents l.most)

@@ -18,4 +18,4 @@ pub returns : goal.returns
 returns c =
     let s = c.args.s in
     let for_each = ap (λ (n : ℕ). min s.unit.0 (n / s.start.0)) (c.magnitude.ensures ∙ ap nat_abs c.price-price.ensures) in
-    subst (MostOff s) (sym (c.smaller.ensures ∙ for_each)) (most_taken s c.requires)
+    subst (MostOff s) (sym (c.min.ensures ∙ for_each)) (most_taken s c.requires)
