@@ -1,27 +1,23 @@
 // Rule 7: within a bid each start is at most its end, and above the end before it.
-ghost use Rattle.std.specs.Prelude.{◌≡◌, ◌≤◌};
-ghost use Rattle.book.specs.Entries.{bid_entries};
+ghost use Rattle.std.specs.Prelude.{◌≡◌};
 ghost use Rattle.book.specs.Rules.{segments_rise};
 
-use book::Bid;
+use book::Segment;
+use money::Blanks;
 
-// Of a bid that keeps rule 4, so that the record holds each segment that it counts.
-pub fn segments_rise(bid: Bid) -> bool
-    requires { bid.count ≤ 6 }
-    ensures { result ≡ segments_rise 0 (bid_entries bid).segments }
+// The segments as the bid lists them.
+pub fn segments_rise(segments: &[Segment]) -> bool
+    ensures { result ≡ segments_rise 0 segments.now }
 {
-    let mut before: u64 = 0;
-    let mut i: usize = 0;
-    while i < bid.count {
-        let s = bid.segments[i];
-        if s.start.0 <= before {
+    let mut before = Blanks(0);
+    for s in segments {
+        if s.start <= before {
             return false;
         }
-        if s.end.0 < s.start.0 {
+        if s.end < s.start {
             return false;
         }
-        before = s.end.0;
-        i += 1;
+        before = s.end;
     }
     true
 }

@@ -3,7 +3,7 @@ use Rattle.std.proofs.Common.{arith}
 use Rattle.book.proofs.InRange.{in_range, price_fits}
 use Rattle.segmentrules.proofs.segments.start_not_negative.Goals as goal
 
-pub price-requires : goal.price-requires
-price-requires c =
-    let range = in_range c.args.s c.requires in
-    price_fits c.args.s range _ (omega (arith, range.start_high, range.end_high))
+pub price-at_start-requires : goal.price-at_start-requires
+price-at_start-requires c =
+    let range = in_range _ c.requires in
+    price_fits _ range _ (omega (arith, range.start_high, range.end_high))
