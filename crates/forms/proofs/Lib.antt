@@ -12,6 +12,7 @@ pub mod Some
 pub mod Signed
 pub mod Whole
 pub mod Place
+pub mod Items
 pub mod Repeat
 pub mod Collecting
 pub mod Framed
