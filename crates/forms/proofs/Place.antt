@@ -59,14 +59,14 @@ module _ {A : Type 0} (p : Form A) (t : List ℕ) where
 
 -- one after the other
 module _ {A B : Type 0} {p : Form A} (P : Laws p) (q : Form B) (t : List ℕ) where
-  found_both : {i e g : ℕ} {a : A} {b : B} → Found p t i a e → Found q t e b g → Found (sequence p q) t i (a, b) g
+  pub found_both : {i e g : ℕ} {a : A} {b : B} → Found p t i a e → Found q t e b g → Found (sequence p q) t i (a, b) g
   found_both {a = a} f h = record {
     finds = ap (then_parse p q) f.finds ∙ ap (after (length (p.text a)) (λ b. (a, b))) h.finds;
     from = omega (arith, f.from, h.from);
     to = h.to;
   }
 
-  stops_second : {i e g : ℕ} {a : A} → Found p t i a e → Stops q t e g → Stops (sequence p q) t i g
+  pub stops_second : {i e g : ℕ} {a : A} → Found p t i a e → Stops q t e g → Stops (sequence p q) t i g
   stops_second {i} {e} {g} {a} f s =
       let z : length (p.text a) + (g - e) ≡ g - i = omega (arith, wide P t f, s.from) in
       record {
@@ -75,7 +75,7 @@ module _ {A B : Type 0} {p : Form A} (P : Laws p) (q : Form B) (t : List ℕ) wh
         to = s.to;
       }
 
-  stops_first : {i e : ℕ} → Stops p t i e → Stops (sequence p q) t i e
+  pub stops_first : {i e : ℕ} → Stops p t i e → Stops (sequence p q) t i e
   stops_first s = record { finds = ap (then_parse p q) s.finds; from = s.from; to = s.to }
 
   pub reads_both : (i : ℕ) (before : Bool) (a : A) (e : ℕ) (mid : Bool) (b : B) (g : ℕ) (stop : Bool) → Reads p t i before a e mid
@@ -97,11 +97,17 @@ module _ {A B : Type 0} (p : Form A) (f : A → B) (Valid : B → Type 0) (text 
   abbrev Q : Form B
   Q = via p f Valid text
 
-  gives_via : (i : ℕ) (a : A) (e : ℕ) (stop : Bool) → Gives p t i a e stop → Gives Q t i (f a) e stop
-  gives_via i a e false x = record { finds = ap (after 0 f) x.finds; from = x.from; to = x.to }
-  gives_via i a e true x =
+  pub found_via : {i e : ℕ} {a : A} → Found p t i a e → Found Q t i (f a) e
+  found_via x = record { finds = ap (after 0 f) x.finds; from = x.from; to = x.to }
+
+  pub stops_via : {i e : ℕ} → Stops p t i e → Stops Q t i e
+  stops_via {i} {e} x =
       let z : 0 + (e - i) ≡ e - i = omega arith in
       record { finds = ap (after 0 f) x.finds ∙ ap (λ (n : ℕ). stopped n) z; from = x.from; to = x.to }
+
+  gives_via : (i : ℕ) (a : A) (e : ℕ) (stop : Bool) → Gives p t i a e stop → Gives Q t i (f a) e stop
+  gives_via i a e false x = found_via x
+  gives_via i a e true x = stops_via x
 
   pub reads_via : (i : ℕ) (before : Bool) (a : A) (e : ℕ) (stop : Bool) → Reads p t i before a e stop → Reads Q t i before (f a) e stop
   reads_via i true a e stop x = x

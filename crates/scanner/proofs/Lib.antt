@@ -1,3 +1,3 @@
 pub mod Bytes
-pub mod Steps
+pub mod Scanned
 mod Words

@@ -1,9 +1,27 @@
--- For the contracts of the scanner and of the readers above it: what was parsed from one cursor to the next.
-use Rattle.std.specs.Prelude.{ℕ, List}
+-- For the contracts of the scanner and of the readers above it: what was parsed from a reader's place on.
+use Rattle.std.specs.Prelude.{ℕ, List, [], ◌∷◌, ◌≡◌, Option, Some, None, Result, Ok, Err}
 use Rattle.forms.specs.Form.{Form}
-use Rattle.forms.specs.Place.{Reads}
-use Rattle.scanner.specs.declared.Cursor.{Cursor}
+use Rattle.forms.specs.Place.{Found, Stops}
+use Rattle.scanner.specs.declared.Reader.{Reader}
+use Rattle.scanner.specs.declared.Stop.{Stop}
 
--- from one cursor to the next, p was parsed as the value a
-abbrev pub Scans : {A : Type 0} → Form A → List ℕ → Cursor → A → Cursor → Type 0
-Scans p t from a next = Reads p t from.at from.stopped a next.at next.stopped
+-- the next byte, where there is one
+abbrev pub first_of : List ℕ → Option ℕ
+first_of [] = None
+first_of (b ∷ r) = Some b
+
+module _ {A : Type 0} (p : Form A) where
+  -- From the place i on: the text of a value, up to the place e, or no text of p, and the place where parsing stopped.
+  abbrev pub Parsed : List ℕ → ℕ → Result A Stop → ℕ → Type 0
+  Parsed t i (Ok a) e = Found p t i a e
+  Parsed t i (Err stop) e = Stops p t i stop.at
+
+  -- in the reader's text, from its place to its new one
+  pub record Scans (from : Reader) (result : Result A Stop) (next : Reader) : Type 0 where
+    pub same_text : next.text.now ≡ from.text.now
+    pub parsed : Parsed from.text.now from.at result next.at
+
+-- the same, said of another value
+abbrev pub ok_as : {A B : Type 0} → (A → B) → Result A Stop → Result B Stop
+ok_as f (Ok a) = Ok (f a)
+ok_as f (Err stop) = Err stop

@@ -1,64 +1,59 @@
-// The words of a text, parsed where they stand: nothing of the text is copied. Each function takes the cursor that the one
-// before it gave, and does nothing once parsing has stopped.
+// The words of a text, parsed where they stand: nothing of the text is copied.
 #![tactic(auto)]
 
-ghost use Rattle.std.specs.Prelude.{◌≡◌, true, false, not, ◌&&◌, ◌≤◌, length, drop};
+ghost use Rattle.std.specs.Prelude.{◌≡◌, ◌≤◌, length, drop};
 ghost use Rattle.forms.specs.Tests.{starts_with};
 ghost use Rattle.forms.specs.Word as Word;
-ghost use Rattle.scanner.specs.Scans.{Scans};
 
-// Where parsing stands: at the place of the next byte, or stopped there.
-#[derive(Clone, Copy)]
-pub struct Cursor {
+// Where parsing stopped: the place of the first byte from which on no text of the form goes on as this one does.
+#[derive(Clone, Copy, PartialEq, Eq)]
+pub struct Stop {
     pub at: usize,
-    pub stopped: bool,
 }
 
-fn stop(at: usize) -> Cursor
-    ensures { result ≡ record { at = at; stopped = true } }
-{
-    Cursor { at, stopped: true }
+// The text that is being parsed, and the place of its next byte. After a Stop it is not parsed on.
+#[derive(Drop)]
+pub struct Reader<'a> {
+    pub text: &'a [u8],
+    pub at: usize,
+    ghost inside: { at ≤ length text.now },
 }
 
-// Whether the byte b stands at the place.
-fn byte_at(text: &[u8], at: usize, b: u8) -> bool
-    ensures { result ≡ starts_with b (drop at text.now) }
-{
-    if text.len() <= at {
-        return false;
+impl<'a> Reader<'a> {
+    ghost use Rattle.scanner.specs.Scans.{first_of, Scans};
+
+    // At the text's first byte.
+    pub fn new(text: &'a [u8]) -> Reader<'a>
+        ensures text { result.text.now ≡ text.entry.now }
+        ensures start { result.at ≡ 0 }
+    {
+        Reader { text, at: 0 }
     }
-    text[at] == b
-}
 
-// The bytes of w.
-pub fn word(text: &[u8], from: Cursor, w: &[u8]) -> Cursor
-    requires { from.at ≤ length text.now }
-    ensures scans { Scans (Word.word w.now) text.now from tt result }
-    ensures at_in_bounds { result.at ≤ length text.now }
-{
-    if from.stopped {
-        return from;
+    pub fn next_byte(&self) -> Option<u8>
+        ensures { result ≡ first_of (drop self.now.at self.now.text.now) }
+    {
+        self.text[self.at..].first().copied()
     }
-    let at = from.at;
-    let mut i: usize = 0;
-    while i < w.len() {
-        if !byte_at(text, at + i, w[i]) {
-            return stop(at + i);
+
+    // Whether the text goes on with the byte b.
+    pub fn begins(&self, b: u8) -> bool
+        ensures { result ≡ starts_with b (drop self.now.at self.now.text.now) }
+    {
+        let next = self.next_byte();
+        next == Some(b)
+    }
+
+    // The bytes of w.
+    pub fn word(&mut self, w: &[u8]) -> Result<(), Stop>
+        ensures { Scans (Word.word w.now) self.old result self.new }
+    {
+        for b in w {
+            if !self.begins(*b) {
+                return Err(Stop { at: self.at });
+            }
+            self.at += 1;
         }
-        i += 1;
+        Ok(())
     }
-    Cursor {
-        at: at + i,
-        stopped: false,
-    }
-}
-
-// Whether the text goes on with the byte b.
-pub fn begins(text: &[u8], from: Cursor, b: u8) -> bool
-    ensures { result ≡ (not from.stopped && starts_with b (drop from.at text.now)) }
-{
-    if !from.stopped {
-        return byte_at(text, from.at, b);
-    }
-    false
 }
