@@ -1,3 +1,4 @@
 pub mod Kind
 pub mod Answers
 pub mod Told
+pub mod Outcome
