@@ -3,38 +3,32 @@
 
 ghost use Rattle.std.specs.Prelude.{◌≡◌};
 ghost use Rattle.book.specs.Entries.{bid_entries};
-ghost use Rattle.book.specs.Rules.{bid_verdict};
+ghost use Rattle.book.specs.Rules.{bid_in_range, bid_verdict};
 
 use book::Bid;
+use money::CentsPerBlank;
 use refusal::{Rule, Verdict};
-use segmentrules::Test;
+
+// Rule 5, of a bid.
+#[tactic(auto, unfolding(book::specs::Rules::bid_in_range))]
+fn in_range(bid: &Bid) -> bool
+    ensures { result ≡ bid_in_range (bid_entries bid.now) }
+{
+    (1..=9_999).contains(&bid.bidder)
+        && bid.carriage <= CentsPerBlank(10_000)
+        && segmentrules::all_in_range(bid.listed())
+}
 
 // The first rule that a bid breaks, if it breaks one. `before` is the bidder of the bid before, or 0
 // for the first.
-#[tactic(auto, unfolding(book::specs::Rules::bid_verdict, book::specs::Rules::bid_in_range))]
-pub fn check_bid(bid: Bid, line: u64, before: u64) -> Verdict
-    ensures { result ≡ bid_verdict line before (bid_entries bid) }
+#[tactic(auto, unfolding(book::specs::Rules::bid_verdict))]
+pub fn check_bid(bid: &Bid, line: u64, before: u64) -> Verdict
+    ensures { result ≡ bid_verdict line before (bid_entries bid.now) }
 {
-    if !segmentrules::within(1, 6, bid.count as u64) {
-        return Err(Rule::SegmentCount.at(line));
-    }
-    if !segmentrules::within(1, 9_999, bid.bidder) {
-        return Err(Rule::Range.at(line));
-    }
-    if !segmentrules::within(0, 10_000, bid.carriage.0) {
-        return Err(Rule::Range.at(line));
-    }
-    if !segmentrules::all_pass(Test::InRange, bid) {
-        return Err(Rule::Range.at(line));
-    }
-    if bid.bidder <= before {
-        return Err(Rule::BidderOrder.at(line));
-    }
-    if !segmentrules::segments_rise(bid) {
-        return Err(Rule::SegmentOrder.at(line));
-    }
-    if !segmentrules::all_pass(Test::StartNotNegative, bid) {
-        return Err(Rule::NegativePrice.at(line));
-    }
-    Ok(())
+    let segments = bid.listed();
+    Rule::SegmentCount.unless((1..=6).contains(&bid.count), line)?;
+    Rule::Range.unless(in_range(bid), line)?;
+    Rule::BidderOrder.unless(before < bid.bidder, line)?;
+    Rule::SegmentOrder.unless(segmentrules::segments_rise(segments), line)?;
+    Rule::NegativePrice.unless(segmentrules::starts_not_negative(segments), line)
 }
