@@ -1,13 +1,12 @@
 // A bid book checked by rules 3 to 8 of document 01.
 #![tactic(auto)]
 
-ghost use Rattle.std.specs.Prelude.{◌≡◌};
-ghost use Rattle.book.specs.Entries.{book_entries};
-ghost use Rattle.book.specs.Rules.{order_in_range, book_verdict};
+ghost use Rattle.std.specs.Prelude.{◌≡◌, map};
+ghost use Rattle.book.specs.Entries.{bid_entries, book_entries};
+ghost use Rattle.book.specs.Rules.{order_in_range, bids_verdict, book_verdict};
 
-mod lines;
-
-use book::{Book, Order};
+use book::{Bid, Book, Order};
+use money::Blanks;
 use refusal::{Rule, Verdict};
 
 // Rule 5, of an order.
@@ -15,10 +14,20 @@ use refusal::{Rule, Verdict};
 fn order_in_range(order: Order) -> bool
     ensures { result ≡ order_in_range order }
 {
-    if !segmentrules::within(1, 1_000_000, order.demand.0) {
-        return false;
+    (Blanks(1)..=Blanks(1_000_000)).contains(&order.demand) && order.allowance <= Blanks(1_000_000)
+}
+
+// The first fault of a bid by rules 4 to 8, with its line: the first bid stands on line 2.
+fn check_bids(bids: &[Bid]) -> Verdict
+    ensures { result ≡ bids_verdict 2 0 (map bid_entries bids.now) }
+{
+    let mut before = 0;
+    for (i, bid) in bids.iter().enumerate() {
+        let line = i as u64 + 2;
+        bidrules::check_bid(bid, line, before)?;
+        before = bid.bidder;
     }
-    segmentrules::within(0, 1_000_000, order.allowance.0)
+    Ok(())
 }
 
 // Accepts a record, or names its first fault with its line.
@@ -26,20 +35,8 @@ fn order_in_range(order: Order) -> bool
 pub fn check(book: Book) -> Verdict
     ensures { result ≡ book_verdict (book_entries book) }
 {
-    let order = book.order;
-    if !order_in_range(order) {
-        return Err(Rule::Range.at(1));
-    }
-    let count = book.count;
-    if count == 0 {
-        return Err(Rule::BidCount.at(2));
-    }
-    let verdict = lines::check_bids(book);
-    if let Err(_) = verdict {
-        return verdict;
-    }
-    if 8 < count {
-        return Err(Rule::BidCount.at(10));
-    }
-    Ok(())
+    Rule::Range.unless(order_in_range(book.order), 1)?;
+    Rule::BidCount.unless(0 < book.count, 2)?;
+    check_bids(book.listed())?;
+    Rule::BidCount.unless(book.count <= 8, 10)
 }
