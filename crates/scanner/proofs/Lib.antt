@@ -1,3 +1,4 @@
 pub mod Bytes
 pub mod Scanned
 mod Words
+pub mod Collecting
