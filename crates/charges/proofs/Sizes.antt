@@ -42,7 +42,11 @@ one_up_to order prices s sound capped = record {
 
 -- over at most nine bidders nothing wraps
 pub up_to_small : (k : ℕ) (x : Sums) → k ≤ 9 → UpTo k x → Small x
-up_to_small k x h u = record { low = omega (arith, u.low); high = omega (arith, u.high); first = omega (arith, u.first); second = omega (arith, u.second) }
+up_to_small k x h u = record {
+  low = omega (arith, u.low);
+  high = omega (arith, u.high);
+  charges = record { first = omega (arith, u.first); second = omega (arith, u.second) };
+}
 
 -- A choice: its sums, and how large they are.
 
@@ -53,7 +57,8 @@ charges_small order l (s ∷ c) sound capped = omega (arith, charge_small order 
 module _ (order : Order) (prices : Prices) where
   pub sums_next : (s : Segment) (c : List Segment) (x : Sums) → SumsOf order prices c x
       → SumsOf order prices (s ∷ c) (sums_with x (sums_on order prices s))
-  sums_next s c x h = record { low = omega arith; high = omega arith; first = omega arith; second = omega arith }
+  sums_next s c x h =
+      record { low = omega arith; high = omega arith; charges_of = record { first = omega arith; second = omega arith } }
 
   pub sums_up_to : (k : ℕ) (c : List Segment) (x : Sums) → All SoundSegment c → Capped prices → length c ≤ k → SumsOf order prices c x → UpTo k x
   sums_up_to k c x sound capped few h = record {

@@ -40,31 +40,38 @@ abbrev pub sums_on : Order → Prices → Segment → Sums
 sums_on order prices s = record {
   low = s.start;
   high = s.end;
-  first = charge order prices.first.0 s;
-  second = charge order prices.second.0 s;
+  charges = record { first = charge order prices.first.0 s; second = charge order prices.second.0 s };
 }
 
--- the charges among some sums
-abbrev pub charges_in : Sums → Charges
-charges_in x = record { first = x.first; second = x.second }
+-- two charges together
+abbrev pub charges_with : Charges → Charges → Charges
+charges_with x y = record { first = x.first + y.first; second = x.second + y.second }
 
 -- two sums together
 abbrev pub sums_with : Sums → Sums → Sums
 sums_with x y = record {
   low = record { 0 = x.low.0 + y.low.0 };
   high = record { 0 = x.high.0 + y.high.0 };
-  first = x.first + y.first;
-  second = x.second + y.second;
+  charges = charges_with x.charges y.charges;
 }
+
+-- charges that can be added without wrapping
+pub record SmallCharges (x : Charges) : Type 0 where
+  pub first : x.first ≤ 2 ^ 62
+  pub second : x.second ≤ 2 ^ 62
+
+-- what the sum of two charges asks
+pub record Summable (x y : Charges) : Type 0 where
+  pub left : SmallCharges x
+  pub right : SmallCharges y
 
 -- sums that can be added without wrapping
 pub record Small (x : Sums) : Type 0 where
   pub low : x.low.0 ≤ 2 ^ 62
   pub high : x.high.0 ≤ 2 ^ 62
-  pub first : x.first ≤ 2 ^ 62
-  pub second : x.second ≤ 2 ^ 62
+  pub charges : SmallCharges x.charges
 
--- what `plus` asks
+-- what two sums together ask
 pub record Addable (x y : Sums) : Type 0 where
   pub left : Small x
   pub right : Small y
@@ -78,12 +85,11 @@ pub record ChargesOf (order : Order) (prices : Prices) (c : List Segment) (x : C
 pub record SumsOf (order : Order) (prices : Prices) (c : List Segment) (x : Sums) : Type 0 where
   pub low : x.low.0 ≡ starts c
   pub high : x.high.0 ≡ ends c
-  pub first : x.first ≡ charges order prices.first.0 c
-  pub second : x.second ≡ charges order prices.second.0 c
+  pub charges_of : ChargesOf order prices c x.charges
 
 -- sums over k bidders are no larger than this; one more is let be for an end that is not counted
 pub record UpTo (k : ℕ) (x : Sums) : Type 0 where
   pub low : x.low.0 ≤ million * k
   pub high : x.high.0 ≤ million * k + 1
-  pub first : x.first ≤ most_charge * k
-  pub second : x.second ≤ most_charge * k
+  pub first : x.charges.first ≤ most_charge * k
+  pub second : x.charges.second ≤ most_charge * k

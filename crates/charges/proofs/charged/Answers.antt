@@ -7,4 +7,4 @@ returns c =
     let s = c.args.s in
     let first = charge_cut c.args.order c.args.prices.first.0 s _ _ c.capped-end.ensures c.charge_to-first.ensures in
     let second = charge_cut c.args.order c.args.prices.second.0 s _ _ c.capped-end.ensures c.charge_to-second.ensures in
-    λ i. record { low = s.start; high = s.end; first = first i; second = second i }
+    λ i. record { low = s.start; high = s.end; charges = record { first = first i; second = second i } }
