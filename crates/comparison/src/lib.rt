@@ -2,87 +2,56 @@
 // more first.
 #![tactic(auto)]
 
-ghost use Rattle.std.specs.Prelude.{◌≡◌, ◌≤◌, take};
+ghost use Rattle.std.specs.Prelude.{◌≡◌, ◌≤◌, Some};
 ghost use Rattle.divisions.specs.Award.{gives_more, wins_tie, better, pick};
-ghost use Rattle.comparison.specs.Records.{blanks_in, division_in, found, Comparable};
+ghost use Rattle.comparison.specs.Records.{blanks_in, division_in, found};
 
 use money::{Blanks, Cents};
 
-// A division, if one was found: its cost, how many blanks it buys, and a quantity for each bidder in book order.
+// A division: its cost, how many blanks it buys, and a quantity for each bidder in book order.
 #[derive(Clone, Copy)]
-pub struct MaybeDivision {
-    pub found: bool,
+pub struct PricedDivision {
     pub cost: Cents,
     pub bought: Blanks,
     pub quantities: [Blanks; 8],
 }
 
-// Whether a gives more than b to the first of n bidders at whom the two differ. It is pub for the search's
-// test of ties.
-pub fn gives_more(a: [Blanks; 8], b: [Blanks; 8], n: usize) -> bool
-    requires { n ≤ 8 }
-    ensures { result ≡ gives_more (take n (blanks_in a)) (take n (blanks_in b)) }
+// Whether a gives more than b to the first bidder at whom the two differ. It is pub for the search's test of ties.
+#[tactic(auto, using(crate::proofs::Comparing::more_by_order))]
+pub fn gives_more(a: &[Blanks], b: &[Blanks]) -> bool
+    ensures { result ≡ gives_more (blanks_in a.now) (blanks_in b.now) }
 {
-    let mut i: usize = 0;
-    while i < n {
-        let x = a[i];
-        let y = b[i];
-        if y.0 < x.0 {
-            return true;
-        }
-        if x.0 < y.0 {
-            return false;
-        }
-        i += 1;
-    }
-    false
+    a > b
 }
 
-// Of two that cost the same: whether a has fewer blanks than b; or as many, and gives more to the first bidder at
+// Of two that cost the same: whether a has fewer blanks than b; or as many, and gives more to the first of n bidders at
 // whom the two differ.
-fn wins_tie(a: MaybeDivision, b: MaybeDivision, n: usize) -> bool
+#[tactic(auto, using(lists::proofs::Slices::map_take), unfolding(divisions::specs::Award::wins_tie))]
+fn wins_tie(a: PricedDivision, b: PricedDivision, n: usize) -> bool
     requires { n ≤ 8 }
     ensures { result ≡ wins_tie (division_in n a) (division_in n b) }
 {
-    let blanks = a.bought.0;
-    let other = b.bought.0;
-    if blanks < other {
-        return true;
-    }
-    if other < blanks {
-        return false;
-    }
-    let quantities = a.quantities;
-    let others = b.quantities;
-    gives_more(quantities, others, n)
+    a.bought < b.bought
+        || (a.bought == b.bought && gives_more(&a.quantities[..n], &b.quantities[..n]))
 }
 
 // Whether a costs less than b; or it costs no more, and wins the tie.
-fn better(a: MaybeDivision, b: MaybeDivision, n: usize) -> bool
+#[tactic(auto, unfolding(divisions::specs::Award::better))]
+fn better(a: PricedDivision, b: PricedDivision, n: usize) -> bool
     requires { n ≤ 8 }
     ensures { result ≡ better (division_in n a) (division_in n b) }
 {
-    let cost = a.cost;
-    let other = b.cost;
-    if !money::at_most(cost, other) {
-        return false;
-    }
-    if !money::at_most(other, cost) {
-        return true;
-    }
-    wins_tie(a, b, n)
+    a.cost < b.cost || (a.cost <= b.cost && wins_tie(a, b, n))
 }
 
 // The better of the division kept so far, if there is one, and a new one.
-pub fn pick(kept: MaybeDivision, new: MaybeDivision, n: usize) -> MaybeDivision
-    requires { Comparable n new }
-    ensures { found n result ≡ pick (found n kept) (division_in n new) }
+#[tactic(auto, unfolding(divisions::specs::Award::pick))]
+pub fn pick(kept: Option<PricedDivision>, new: PricedDivision, n: usize) -> PricedDivision
+    requires { n ≤ 8 }
+    ensures { found n (Some result) ≡ pick (found n kept) (division_in n new) }
 {
-    if !kept.found {
-        return new;
+    match kept {
+        Some(kept) if !better(new, kept, n) => kept,
+        _ => new,
     }
-    if !better(new, kept, n) {
-        return kept;
-    }
-    new
 }
