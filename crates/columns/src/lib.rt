@@ -1,15 +1,13 @@
 // What stands in columns, set to the right, put into a lent output. A place is bounded so that no sum wraps.
 #![tactic(auto)]
 
-ghost use Rattle.std.specs.Prelude.{◌+◌, ◌^◌, ◌≤◌, ◌<◌};
+ghost use Rattle.std.specs.Prelude.{◌≡◌, ◌+◌, ◌^◌, ◌≤◌, ◌<◌, length, replicate};
 ghost use Rattle.forms.specs.Column.{right};
-ghost use Rattle.printer.specs.Written.{Put};
+ghost use Rattle.printer.specs.Puts.{Puts};
 ghost use Rattle.columns.specs.Shown.{shown_text};
 
-mod spaces;
-
 use money::Cents;
-use spaces::{put_spaces, spaces_before};
+use printer::Output;
 use words::Word;
 
 // What stands in a column: a word, a number, or money with a point and two decimals.
@@ -20,40 +18,46 @@ pub enum Shown {
     InMoney(Cents),
 }
 
-// A column from `at` on, where it fits. Answers the place after it all the same.
-pub fn put(out: &mut [u8], at: usize, width: u8, shown: Shown) -> usize
-    requires { at < 2 ^ 59 }
-    ensures put { Put out.old at (right width (shown_text shown)) out.new result }
-    ensures upper_bound { result ≤ at + 500 }
+// A column, where it fits: what is shown, and before it the spaces that its length leaves of the width. There are none where it is as long
+// as the column is wide, or longer.
+pub fn put(out: &mut Output<'_>, width: u8, shown: Shown)
+    requires { out.old.at < 2 ^ 59 }
+    ensures puts { Puts out.old (right width (shown_text shown)) out.new }
+    ensures upper_bound { out.new.at ≤ out.old.at + 500 }
+{
+    let spaces = (width as usize).saturating_sub(shown_length(shown));
+    put_spaces(out, spaces);
+    put_shown(out, shown);
+}
+
+// What is shown is measured by putting it into an output that is too short.
+fn shown_length(shown: Shown) -> usize
+    ensures { result ≡ length (shown_text shown) }
 {
     let mut nowhere = [0u8; 1];
-    let next = at + put_column(&mut nowhere, width, shown);
-    if out.len() < next {
-        return next;
+    let mut measured = Output::new(&mut nowhere);
+    put_shown(&mut measured, shown);
+    measured.at
+}
+
+fn put_spaces(out: &mut Output<'_>, count: usize)
+    requires place { out.old.at < 2 ^ 59 }
+    requires few { count ≤ 255 }
+    ensures { Puts out.old (replicate count 32) out.new }
+{
+    for _ in 0..count {
+        words::put(out, Word::Space);
     }
-    put_column(&mut out[at..], width, shown);
-    next
 }
 
-// A column at the beginning of what is lent: the output from the column's place onward.
-fn put_column(out: &mut [u8], width: u8, shown: Shown) -> usize
-    ensures put { Put out.old 0 (right width (shown_text shown)) out.new result }
-    ensures upper_bound { result ≤ 400 }
-{
-    let mut nowhere = [0u8; 1];
-    let size = put_shown(&mut nowhere, 0, shown);
-    let start = put_spaces(out, spaces_before(width, size));
-    put_shown(out, start, shown)
-}
-
-fn put_shown(out: &mut [u8], at: usize, shown: Shown) -> usize
-    requires { at < 2 ^ 60 }
-    ensures put { Put out.old at (shown_text shown) out.new result }
-    ensures upper_bound { result ≤ at + 124 }
+fn put_shown(out: &mut Output<'_>, shown: Shown)
+    requires { out.old.at < 2 ^ 60 }
+    ensures puts { Puts out.old (shown_text shown) out.new }
+    ensures upper_bound { out.new.at ≤ out.old.at + 124 }
 {
     match shown {
-        Shown::InWord(word) => words::put(out, at, word),
-        Shown::InDigits(n) => printer::put_number(out, at, n),
-        Shown::InMoney(cents) => printer::put_money(out, at, cents),
+        Shown::InWord(word) => words::put(out, word),
+        Shown::InDigits(n) => out.number(n),
+        Shown::InMoney(cents) => out.money(cents),
     }
 }

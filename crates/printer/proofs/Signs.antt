@@ -6,7 +6,6 @@ use mathlib.Core.List.{List, [], ◌++◌}
 use mathlib.Core.Path.{◌≡◌, refl, sym, ap, ◌∙◌}
 use borrow.Author.Tests.{ltb-true}
 use lib.IntN.{ℤ, pos, negsuc, nat_abs}
-use lib.ListN.{length}
 use lib.Signed.{lt_z}
 use mir.Syntax.{w64}
 use mir.Val.{SFits}
@@ -16,8 +15,9 @@ use Rattle.forms.specs.Bytes.{ascii}
 use Rattle.forms.specs.Digits.{digits, signed_digits}
 use Rattle.forms.specs.Money.{decimal_text, money_text}
 use Rattle.printer.specs.Sign.{sign}
-use Rattle.printer.specs.Written.{Put}
-use Rattle.printer.proofs.Put.{put_as, put_then}
+use Rattle.printer.specs.declared.Output.{Output}
+use Rattle.printer.specs.Puts.{Puts}
+use Rattle.printer.proofs.Puts.{puts_as, puts_then}
 
 -- a text of a number: its sign, and then f of its magnitude
 abbrev pub Signed : (ℤ → List ℕ) → (ℕ → List ℕ) → Type 0
@@ -34,12 +34,9 @@ sign_decimals (pos n) = refl
 sign_decimals (negsuc n) = refl
 
 -- such a text put, with a magnitude as the machine gives it
-module _ (out : List ℕ) (at : ℕ) where
-  pub put_signed : (text : ℤ → List ℕ) (f : ℕ → List ℕ) (z : ℤ) (mid : List ℕ) (next n : ℕ) (exit : List ℕ) (end : ℕ)
-      → Signed text f → n ≡ nat_abs z → length mid ≡ length out → Put out at (sign z) mid next → Put mid next (f n) exit end
-      → Put out at (text z) exit end
-  put_signed text f z mid next n exit end parts e kept first second =
-      put_as out at _ _ exit end (ap (λ (k : ℕ). sign z ++ f k) e ∙ parts z) (put_then out at (sign z) mid next (f n) exit end kept first second)
+pub puts_signed : (text : ℤ → List ℕ) (f : ℕ → List ℕ) (z : ℤ) (n : ℕ) {before mid after : Output} → Signed text f → n ≡ nat_abs z
+    → Puts before (sign z) mid → Puts mid (f n) after → Puts before (text z) after
+puts_signed text f z n parts e first second = puts_as (ap (λ (k : ℕ). sign z ++ f k) e ∙ parts z) (puts_then first second)
 
 -- the sign, as the machine tells it
 below_zero : (z : ℤ) → lt_z z (pos 0) ≡ true → sign z ≡ ascii "-"

@@ -3,48 +3,49 @@ ghost use Rattle.std.specs.Prelude.{◌+◌, ◌^◌, ◌≤◌, ◌<◌};
 ghost use Rattle.forms.specs.Digits.{signed_digits};
 ghost use Rattle.forms.specs.Money.{decimal_text, money_text};
 ghost use Rattle.printer.specs.Sign.{sign};
-ghost use Rattle.printer.specs.Written.{Put};
+ghost use Rattle.printer.specs.Puts.{Puts};
 
-use crate::{put_number, put_word};
+use crate::Output;
 use money::Cents;
 
-fn put_sign(out: &mut [u8], at: usize, price: Cents) -> usize
-    requires { at < 2 ^ 62 }
-    ensures put { Put out.old at (sign price.0) out.new result }
-    ensures upper_bound { result ≤ at + 1 }
-{
-    if price.0 < 0 {
-        return put_word(out, at, b"-");
+impl Output<'_> {
+    fn sign(&mut self, price: Cents)
+        requires { self.old.at < 2 ^ 62 }
+        ensures puts { Puts self.old (sign price.0) self.new }
+        ensures upper_bound { self.new.at ≤ self.old.at + 1 }
+    {
+        if price.0 < 0 {
+            self.word(b"-");
+        }
     }
-    at
-}
 
-pub fn put_cents(out: &mut [u8], at: usize, price: Cents) -> usize
-    requires { at < 2 ^ 62 }
-    ensures put { Put out.old at (signed_digits price.0) out.new result }
-    ensures upper_bound { result ≤ at + 21 }
-{
-    let number = put_sign(out, at, price);
-    put_number(out, number, money::magnitude(price))
-}
+    pub fn cents(&mut self, price: Cents)
+        requires { self.old.at < 2 ^ 62 }
+        ensures puts { Puts self.old (signed_digits price.0) self.new }
+        ensures upper_bound { self.new.at ≤ self.old.at + 21 }
+    {
+        self.sign(price);
+        self.number(money::magnitude(price));
+    }
 
-// With a point and two decimals.
-pub fn put_money(out: &mut [u8], at: usize, price: Cents) -> usize
-    requires { at < 2 ^ 60 }
-    ensures put { Put out.old at (money_text price.0) out.new result }
-    ensures upper_bound { result ≤ at + 124 }
-{
-    let number = put_sign(out, at, price);
-    put_decimal(out, number, money::magnitude(price))
-}
+    // With a point and two decimals.
+    pub fn money(&mut self, price: Cents)
+        requires { self.old.at < 2 ^ 60 }
+        ensures puts { Puts self.old (money_text price.0) self.new }
+        ensures upper_bound { self.new.at ≤ self.old.at + 124 }
+    {
+        self.sign(price);
+        self.decimal(money::magnitude(price));
+    }
 
-fn put_decimal(out: &mut [u8], at: usize, n: u64) -> usize
-    requires { at < 2 ^ 61 }
-    ensures put { Put out.old at (decimal_text n) out.new result }
-    ensures upper_bound { result ≤ at + 92 }
-{
-    let point = put_number(out, at, n / 100);
-    let tenth = put_word(out, point, b".");
-    let last = put_number(out, tenth, n / 10 % 10);
-    put_number(out, last, n % 10)
+    fn decimal(&mut self, n: u64)
+        requires { self.old.at < 2 ^ 61 }
+        ensures puts { Puts self.old (decimal_text n) self.new }
+        ensures upper_bound { self.new.at ≤ self.old.at + 92 }
+    {
+        self.number(n / 100);
+        self.word(b".");
+        self.number(n / 10 % 10);
+        self.number(n % 10);
+    }
 }

@@ -1,28 +1,59 @@
-// Words, numbers and prices put into a lent output. Each function answers the place after what it puts; where that lies past the output's
-// end, nothing is stored of it. So a text is measured by putting it into an output that is too short, and no second code counts bytes. A
-// place is bounded so that no sum wraps.
+// Words, numbers and prices put into a lent output. After each the output's place is the one after what was put; where that lies past the
+// output's end, nothing is stored of it. So a text is measured by putting it into an output that is too short, and no second code counts
+// bytes. A place is bounded so that no sum wraps.
 #![tactic(auto)]
 
 ghost use Rattle.std.specs.Prelude.{◌≡◌, ◌+◌, ◌^◌, ◌≤◌, ◌<◌, length};
 ghost use Rattle.forms.specs.Digits.{digits};
-ghost use Rattle.printer.specs.Written.{Wrote, placed, Put, Placeable};
+ghost use Rattle.printer.specs.Written.{Wrote, placed, Placeable};
+ghost use Rattle.printer.specs.Puts.{Puts};
 
 mod cents;
 
-pub use cents::{put_cents, put_money};
+// A lent output, and the place where the next text is put.
+#[derive(Drop)]
+pub struct Output<'a> {
+    pub bytes: &'a mut [u8],
+    pub at: usize,
+}
 
-// The bytes of w, from `at` on.
-#[tactic(auto, using(std::proofs::lemmas::List::Edits::paste_more, crate::proofs::Written::written_paste))]
-fn write_word(out: &mut [u8], at: usize, w: &[u8]) -> usize
-    requires { at + length w.now ≤ length out.old }
-    ensures { Wrote out.old at w.now out.new result }
-{
-    let mut i: usize = 0;
-    while i < w.len() {
-        out[at + i] = w[i];
-        i += 1;
+impl<'a> Output<'a> {
+    // A text put into this output stands at its beginning.
+    pub fn new(bytes: &'a mut [u8]) -> Output<'a>
+        ensures same { result.bytes.ghost_name ≡ bytes.entry.ghost_name }
+        ensures bytes { result.bytes.now ≡ bytes.entry.now }
+        ensures start { result.at ≡ 0 }
+    {
+        Output { bytes, at: 0 }
     }
-    at + i
+
+    // The bytes of w, where they fit.
+    #[tactic(auto, unfolding(crate::specs::Written::placed))]
+    pub fn word(&mut self, w: &[u8])
+        requires { Placeable self.old.at w.now }
+        ensures puts { Puts self.old w.now self.new }
+        ensures out_after { self.new.bytes.now ≡ placed self.old.bytes.now self.old.at w.now }
+        ensures upper_bound { self.new.at ≤ self.old.at + 32 }
+    {
+        let next = self.at + w.len();
+        if next <= self.bytes.len() {
+            self.bytes[self.at..next].copy_from_slice(w);
+        }
+        self.at = next;
+    }
+
+    // The digits of n in the same way.
+    pub fn number(&mut self, n: u64)
+        requires { self.old.at < 2 ^ 63 }
+        ensures puts { Puts self.old (digits n) self.new }
+        ensures upper_bound { self.new.at ≤ self.old.at + 20 }
+    {
+        let next = self.at + digit_count(n);
+        if next <= self.bytes.len() {
+            write_digits(&mut self.bytes[self.at..], n);
+        }
+        self.at = next;
+    }
 }
 
 // The digits of n, at the beginning of the output.
@@ -48,37 +79,7 @@ fn digit(d: u64) -> u8
     48 + (d as u8)
 }
 
-// The bytes of w, from `at` on, where they fit. Answers the place after them all the same.
-#[tactic(auto, unfolding(crate::specs::Written::placed))]
-pub fn put_word(out: &mut [u8], at: usize, w: &[u8]) -> usize
-    requires { Placeable at w.now }
-    ensures value { result ≡ at + length w.now }
-    ensures out_after { out.new ≡ placed out.old at w.now }
-    ensures upper_bound { result ≤ at + 32 }
-{
-    let next = at + w.len();
-    if out.len() < next {
-        return next;
-    }
-    write_word(out, at, w)
-}
-
-// The digits of n in the same way.
-#[tactic(auto, using(crate::proofs::Written::part_back))]
-pub fn put_number(out: &mut [u8], at: usize, n: u64) -> usize
-    requires { at < 2 ^ 63 }
-    ensures put { Put out.old at (digits n) out.new result }
-    ensures upper_bound { result ≤ at + 20 }
-{
-    let next = at + digit_count(n);
-    if out.len() < next {
-        return next;
-    }
-    write_digits(&mut out[at..], n);
-    next
-}
-
-// How many digits n has.
+// How many digits n has. Counted by a loop: the library's logarithms are of base 2 alone.
 #[tactic(auto, using(forms::proofs::Digits::length_one, forms::proofs::Digits::length_more))]
 fn digit_count(n: u64) -> usize
     ensures value { result ≡ length (digits n) }
@@ -87,7 +88,7 @@ fn digit_count(n: u64) -> usize
     let mut left = n;
     let mut count: usize = 1;
     while 10 <= left {
-        left = left / 10;
+        left /= 10;
         count += 1;
     }
     count

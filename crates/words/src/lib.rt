@@ -3,7 +3,10 @@
 
 ghost use Rattle.std.specs.Prelude.{◌≡◌, ◌+◌, ◌^◌, ◌≤◌, ◌<◌, length};
 ghost use Rattle.printer.specs.Written.{placed};
+ghost use Rattle.printer.specs.Puts.{Puts};
 ghost use Rattle.words.specs.WordText.{word_text};
+
+use printer::Output;
 
 #[derive(Clone, Copy)]
 pub enum Word {
@@ -24,29 +27,37 @@ pub enum Word {
     EndLine,
 }
 
-// A word from `at` on, where it fits. Answers the place after it all the same. A byte string cannot be returned, so each is put where it is
-// named. The place is bounded so that no sum wraps.
-pub fn put(out: &mut [u8], at: usize, word: Word) -> usize
-    requires { at < 2 ^ 61 }
-    ensures value { result ≡ at + length (word_text word) }
-    ensures out_after { out.new ≡ placed out.old at (word_text word) }
-    ensures upper_bound { result ≤ at + 32 }
-{
-    match word {
-        Word::Award => printer::put_word(out, at, b"(award "),
-        Word::Buy => printer::put_word(out, at, b"(buy "),
-        Word::Refused => printer::put_word(out, at, b"(refused "),
-        Word::Seg => printer::put_word(out, at, b" (seg "),
-        Word::Space => printer::put_word(out, at, b" "),
-        Word::Without => printer::put_word(out, at, b" (without "),
-        Word::WithoutNone => printer::put_word(out, at, b" (without none"),
-        Word::Close => printer::put_word(out, at, b")"),
-        Word::CloseLine => printer::put_word(out, at, b")\n"),
-        Word::CloseRow => printer::put_word(out, at, b"))\n"),
-        Word::Demand => printer::put_word(out, at, b"(demand "),
-        Word::Bid => printer::put_word(out, at, b"(bid "),
-        Word::Band => printer::put_word(out, at, b"(band "),
-        Word::None => printer::put_word(out, at, b"none"),
-        Word::EndLine => printer::put_word(out, at, b"\n"),
+impl Word {
+    fn bytes(self) -> &'static [u8]
+        ensures value { result.now ≡ word_text self }
+        ensures upper_bound { length result.now ≤ 32 }
+    {
+        match self {
+            Word::Award => b"(award ",
+            Word::Buy => b"(buy ",
+            Word::Refused => b"(refused ",
+            Word::Seg => b" (seg ",
+            Word::Space => b" ",
+            Word::Without => b" (without ",
+            Word::WithoutNone => b" (without none",
+            Word::Close => b")",
+            Word::CloseLine => b")\n",
+            Word::CloseRow => b"))\n",
+            Word::Demand => b"(demand ",
+            Word::Bid => b"(bid ",
+            Word::Band => b"(band ",
+            Word::None => b"none",
+            Word::EndLine => b"\n",
+        }
     }
+}
+
+// A word, where it fits. The place moves past it all the same, and is bounded so that no sum wraps.
+pub fn put(out: &mut Output<'_>, word: Word)
+    requires { out.old.at < 2 ^ 61 }
+    ensures puts { Puts out.old (word_text word) out.new }
+    ensures out_after { out.new.bytes.now ≡ placed out.old.bytes.now out.old.at (word_text word) }
+    ensures upper_bound { out.new.at ≤ out.old.at + 32 }
+{
+    out.word(word.bytes());
 }

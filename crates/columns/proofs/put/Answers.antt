@@ -1,13 +1,14 @@
--- The column is measured first, and put only where it fits, into the part of the output from the place on.
-use Rattle.std.proofs.Common.{arith, rules}
+-- So many spaces are put as the length of what is shown leaves of the width, and right after them what is shown.
+use Rattle.std.proofs.Common.{◌≡◌, ℕ, ◌-◌, ◌++◌, length, ap, arith}
+use lib.ListN.{replicate}
 use Rattle.forms.specs.Column.{right}
-use Rattle.printer.proofs.Put.{put_part}
+use Rattle.printer.proofs.Puts.{puts_as, puts_then}
 use Rattle.columns.specs.Shown.{shown_text}
 use Rattle.columns.proofs.put.Goals as goal
 
-pub returns-clause-put : goal.returns-clause-put
-returns-clause-put c =
-    let a = c.args in
-    let d = c.put_column-2 in
-    let w = put_part a.out.now a.at (right a.width (shown_text a.shown)) d.new.out d.result (omega arith) (search rules) in
-    (omega arith, λ h. w.1 (omega arith))
+pub returns-clause-puts : goal.returns-clause-puts
+unfolding right
+returns-clause-puts c =
+    let text = shown_text c.args.shown in
+    let count : c.saturating_sub-spaces.result ≡ c.args.width - length text = omega arith in
+    puts_as (ap (λ (n : ℕ). replicate n 32 ++ text) count) (puts_then c.put_spaces.ensures c.put_shown.ensures.puts)

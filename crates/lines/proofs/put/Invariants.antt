@@ -1,11 +1,11 @@
-use Rattle.std.proofs.Common.{◌+◌, ◌*◌, ◌-◌, ◌≤◌, take}
+use Rattle.std.proofs.Common.{◌+◌, ◌*◌, ◌≤◌, take}
 use Rattle.lists.specs.Joined.{joined}
-use Rattle.printer.specs.Written.{Put}
+use Rattle.printer.specs.Puts.{Puts}
 use Rattle.lines.specs.Line.{part_text}
 use Rattle.lines.proofs.put.Given as goal
 
-abbrev pub invariant-loop-i : goal.invariant-loop-i
-invariant-loop-i l = (l.i ≤ 8) × (l.next ≤ l.at + 500 * l.i) × Put l.initial.out l.at (joined part_text (take l.i l.line)) l.out l.next
-
-abbrev pub decreases-loop-i : goal.decreases-loop-i
-decreases-loop-i l = 8 - l.i
+abbrev pub invariant-loop-part : goal.invariant-loop-part
+invariant-loop-part l = record {
+  place : l.out.at ≤ l.initial.out.at + 500 * l.part-index;
+  puts : Puts l.initial.out (joined part_text (take l.part-index l.line)) l.out;
+}
