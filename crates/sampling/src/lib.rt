@@ -2,16 +2,17 @@
 // table, rule 12 of document 02, stands in specs/; `tablerules` checks it.
 #![tactic(auto)]
 
-ghost use Rattle.std.specs.Prelude.{◌≡◌, min};
+ghost use Rattle.std.specs.Prelude.{◌≡◌, take};
 ghost use Rattle.sampling.specs.Entries.{table_entries};
 ghost use Rattle.sampling.specs.Sampling.{printed_table, sample_of};
 
 mod printed_bands;
 
 use money::Blanks;
+use printed_bands::PRINTED;
 
 // A band of quantities, from one above the band before it (the first from 1) to its highest.
-#[derive(Clone, Copy)]
+#[derive(Clone, Copy, PartialEq, Eq)]
 pub struct Band {
     pub highest: u64,
     pub sample: u64,
@@ -25,33 +26,31 @@ pub struct Table {
     pub bands: [Band; 16],
 }
 
+impl Table {
+    // The bands that the record counts and holds.
+    pub fn listed(&self) -> &[Band]
+        ensures { result.now ≡ take self.now.count self.now.bands }
+    {
+        &self.bands[..self.count.min(16)]
+    }
+}
+
 // The printed table.
 #[tactic(auto, unfolding(crate::specs::Sampling::printed_bands))]
 pub fn printed() -> Table
     ensures { table_entries result ≡ printed_table }
 {
     Table {
-        count: 16,
-        bands: printed_bands::PRINTED,
+        count: PRINTED.len(),
+        bands: PRINTED,
     }
-}
-
-// How many of the counted bands are in a record, which holds sixteen.
-pub fn held(count: usize) -> usize
-    ensures { result ≡ min count 16 }
-{
-    if 16 < count {
-        return 16;
-    }
-    count
 }
 
 // The sample by the printed table. Quantity 0 samples 0, and so does one above 1,000,000, which lies in no band and which no award has.
 pub fn sample(quantity: Blanks) -> Blanks
     ensures { result.0 ≡ sample_of printed_table quantity.0 }
 {
-    let table = printed();
-    sample_by_table(table, quantity)
+    sample_by_table(printed(), quantity)
 }
 
 // The sample by a table: that of the band in which the quantity lies, 0 where it lies in none.
@@ -63,14 +62,8 @@ pub fn sample_by_table(table: Table, quantity: Blanks) -> Blanks
     if q == 0 {
         return Blanks(0);
     }
-    let n = held(table.count);
-    let mut i: usize = 0;
-    while i < n {
-        let band = table.bands[i];
-        if q <= band.highest {
-            return Blanks(band.sample);
-        }
-        i += 1;
+    match table.listed().iter().find(|band| q <= band.highest) {
+        Some(band) => Blanks(band.sample),
+        None => Blanks(0),
     }
-    Blanks(0)
 }

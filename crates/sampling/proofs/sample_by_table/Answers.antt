@@ -1,31 +1,28 @@
--- The quantity is above the bands before `i`, so the first band that reaches it has its sample.
-use Rattle.std.proofs.Common.{◌≡◌, List, min, length, get_or, sym, ap, ◌∙◌, arith}
-use Rattle.lists.proofs.Slices.{length_held, take_held}
+-- The first band that reaches the quantity is found, and has its sample.
+use Rattle.std.proofs.Common.{rules, tests, ◌≡◌, List, sym, ap, ◌∙◌, arith}
+use Rattle.std.specs.List.{find}
+use Rattle.std.specs.Option.{option_map}
+use Rattle.std.proofs.lemmas.Iterator.{YieldsList-from_slice}
+use Rattle.std.proofs.lemmas.Iterator.Search.{find_from_yields_List}
+use lib.Dec.{leb}
 use Rattle.sampling.specs.declared.Band.{Band}
-use Rattle.sampling.specs.Sampling.{band, sample_above, sample_of}
-use Rattle.sampling.proofs.Scan.{scan_next, scan_stop, scan_done}
+use Rattle.sampling.specs.Entries.{table_entries}
+use Rattle.sampling.specs.Sampling.{sample_of}
+use Rattle.sampling.proofs.Scan.{sample_found, first_reaching}
 use Rattle.sampling.proofs.sample_by_table.Goals as goal
+use Rattle.sampling.proofs.sample_by_table.Goals.{After-find}
 
-pub loop-i-init : goal.loop-i-init
+sampled : (c : After-find) → sample_of (table_entries c.args.table) c.args.quantity.0 ≡ sample_found (option_map (λ b. b.now) c.find.result)
 unfolding sample_of
-loop-i-init c =
-    let table = c.args.table in
-    let h : length table.bands ≡ 16 = search (length_held, c.well_formed) in
-    let n : c.held-n.result ≡ min table.count (length table.bands) = c.held-n.ensures ∙ ap (min table.count) (sym h) in
-    (omega arith, omega arith, (0, omega arith, ap (λ (l : List Band). sample_above 0 l c.args.quantity.0) (sym (take_held table.bands table.count _ n))))
+sampled c =
+    let q = c.args.quantity.0 in
+    let found = find_from_yields_List (λ (b : Band). leb q b.highest) _ _ c.find.result c.find.ensures.ran (YieldsList-from_slice c.listed.result.now cc) (λ x b q k. search (rules, tests)) in
+    first_reaching 0 q _ (omega arith)
+    ∙ ap (λ (bs : List Band). sample_found (find (λ (b : Band). leb q b.highest) bs)) (sym c.listed.ensures)
+    ∙ ap sample_found (sym found)
 
-pub returns-then-q-band : goal.returns-then-q-band
-returns-then-q-band c =
-    let (before, above, left) = c.loop-i.invariant.2 in
-    sym (left ∙ scan_stop before c.args.quantity.0 c.args.table.bands c.loop-i.i _ above c.loop-i-test.true c.loop-i.invariant.1 (omega arith))
+pub returns-in-Some : goal.returns-in-Some
+returns-in-Some c = let t = (goal.at.returns-in-Some c).After-find in sym (sampled t ∙ rw c.in-Some.is)
 
-pub loop-i-preserved : goal.loop-i-preserved
-loop-i-preserved c =
-    let (before, above, left) = c.loop-i.invariant.2 in
-    let next = scan_next before c.args.quantity.0 c.args.table.bands c.loop-i.i _ above c.loop-i-test.true c.loop-i.invariant.1 (omega arith) in
-    (omega arith, c.loop-i.invariant.1, ((get_or c.args.table.bands c.loop-i.i (band 0 0)).highest, omega arith, left ∙ next))
-
-pub returns : goal.returns
-returns c =
-    let (before, above, left) = c.loop-i.invariant.2 in
-    sym (left ∙ scan_done before c.args.quantity.0 c.args.table.bands c.loop-i.i _ c.loop-i.invariant.0 c.loop-i-test.false)
+pub returns-in-None : goal.returns-in-None
+returns-in-None c = let t = (goal.at.returns-in-None c).After-find in sym (sampled t ∙ rw c.in-None.is)
