@@ -1,6 +1,7 @@
 -- Writing a text into a lent output: document 01, section "What is turned down". `before` is the verdict on what the text is made from.
-use Rattle.std.specs.Prelude.{ℕ, List, [], ◌∷◌, leb, length}
+use Rattle.std.specs.Prelude.{ℕ, List, [], ◌∷◌, leb, length, Result, Ok, Err}
 use Rattle.refusal.specs.Checks.{unless, first_of, when_accepted}
+use Rattle.refusal.specs.declared.Refusal.{Refusal}
 use Rattle.refusal.specs.declared.Rule.TheVariants.{OutputLength}
 use Rattle.refusal.specs.Verdict.{Verdict}
 use Rattle.refusal.specs.Verdict.{Accepted}
@@ -22,10 +23,15 @@ written_of before text size = record {
 unfoldable pub output_after : Verdict → List ℕ → List ℕ → List ℕ
 output_after before text out = when_accepted (writing_verdict before text (length out)) (written out 0 text) out
 
--- For the contracts of the functions that make such an answer: beside a refusal, and where the whole text was written.
+-- Such an answer beside a refusal, and where the whole text was written.
 
 abbrev pub not_written : Verdict → TextWritten
 not_written verdict = record { verdict = verdict; bytes = 0 }
 
 abbrev pub all_written : ℕ → TextWritten
 all_written bytes = record { verdict = Accepted; bytes = bytes }
+
+-- what a writer answers that wrote so many bytes, or was refused
+abbrev pub told : Result ℕ Refusal → TextWritten
+told (Ok bytes) = all_written bytes
+told (Err refusal) = not_written (Err refusal)
