@@ -39,10 +39,30 @@ def edits():
     return [Edit(path) for crate in crates() for path in sorted(glob.glob(f"crates/{crate}/must-fail/*.edit"))]
 
 
+def sources(crate):
+    """The files of a crate's code, lib.rt first."""
+    return sorted(glob.glob(f"crates/{crate}/src/**/*.rt", recursive=True), key=lambda path: (not path.endswith("lib.rt"), path))
+
+
+def declared(path):
+    """The functions of a file, each with whether it is public: by its name, or of an `impl` block by the type and its name, as `Bid::listed`.
+    What implements a trait is as public as the type is."""
+    owner, of_trait, found = None, False, []
+    for line in read(path).split("\n"):
+        block = re.match(r"impl(?:<[^{]*?>)? (?:(?P<tr>.+) for )?(?P<owner>\w+)", line)
+        if block:
+            owner, of_trait = block["owner"], block["tr"] is not None
+        elif line.startswith("}"):
+            owner = None
+        head = re.match(r"(?P<in>    )?(?P<pub>pub )?(?:extern \"C\" )?fn (?P<name>\w+)", line)
+        if head and bool(head["in"]) == (owner is not None):
+            found.append((f"{owner}::{head['name']}" if owner else head["name"], bool(head["pub"]) or (owner is not None and of_trait)))
+    return found
+
+
 def functions(crate):
     """The functions of a crate, public or not, in the order of its files, lib.rt first."""
-    files = sorted(glob.glob(f"crates/{crate}/src/**/*.rt", recursive=True), key=lambda path: (not path.endswith("lib.rt"), path))
-    return [name for path in files for name in re.findall(r"^(?:pub )?(?:extern \"C\" )?fn (\w+)", read(path), re.M)]
+    return [name for path in sources(crate) for name, _ in declared(path)]
 
 
 def theorems(crate):
@@ -57,13 +77,16 @@ def guarded(crate):
 
 
 def public(crate):
-    """The public functions of a library: those of lib.rt, and those of its modules that it names with `pub use`. What it hands on from
-    another crate is that crate's."""
+    """The public functions of a library: those of lib.rt, those of its modules that it names with `pub use`, and the methods of the types that
+    it declares or names so. What it hands on from another crate is that crate's."""
     path = f"crates/{crate}/src/lib.rt"
     text = read(path) if os.path.isfile(path) else ""
-    used = re.findall(r"^pub use (\w+)(?:::\w+)*::(?:\{([^}]*)\}|([a-z]\w*));", text, re.M)
-    named = [(owner, name) for owner, many, one in used for name in re.findall(r"\b[a-z]\w*", many or one)]
-    return re.findall(r"^pub (?:extern \"C\" )?fn (\w+)", text, re.M) + [name for owner, name in named if owner not in crates()]
+    used = re.findall(r"^pub use (\w+)(?:::\w+)*::(?:\{([^}]*)\}|(\w+));", text, re.M)
+    named = [name for owner, many, one in used if owner not in crates() for name in re.findall(r"\w+", many or one)]
+    types = named + re.findall(r"^pub (?:struct|enum) (\w+)", text, re.M)
+    free = re.findall(r"^pub (?:extern \"C\" )?fn (\w+)", text, re.M) + [name for name in named if not name[0].isupper()]
+    files = sources(crate) if text else []
+    return free + [name for path in files for name, shown in declared(path) if shown and "::" in name and name.split("::")[0] in types]
 
 
 def listing():
