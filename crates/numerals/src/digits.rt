@@ -1,42 +1,29 @@
 // The digits of a number, one by one.
-ghost use Rattle.std.specs.Prelude.{◌≡◌, ◌-◌, ◌≤◌, ◌<◌, drop};
-ghost use Rattle.forms.specs.Tests.{goes_on, begins_number};
+ghost use Rattle.std.specs.Prelude.{◌≡◌, ◌≤◌, drop};
+ghost use Rattle.forms.specs.Tests.{is_first, goes_on};
+ghost use Rattle.numerals.specs.Digits.{digit_if};
 
-// Whether a number that is at least `least` can begin at the place.
-pub fn is_first_at(text: &[u8], at: usize, least: u8) -> bool
+use scanner::Reader;
+
+// The next digit, where a number that is at least `least` can begin with it.
+pub fn first(reader: &Reader<'_>, least: u8) -> Option<u64>
     requires { least ≤ 1 }
-    ensures { result ≡ begins_number least (drop at text.now) }
+    ensures { result ≡ digit_if (is_first least) (drop reader.now.at reader.now.text.now) }
 {
-    if text.len() <= at {
-        return false;
+    match reader.next_byte() {
+        Some(b) if (b'0' + least..=b'9').contains(&b) => Some(u64::from(b - b'0')),
+        _ => None,
     }
-    let b = text[at];
-    if b < 48 + least {
-        return false;
-    }
-    b <= 57
 }
 
-// Whether the digit b may follow the digits of v.
-pub fn goes_on(v: u64, b: u8) -> bool
-    ensures { result ≡ goes_on v b }
+// The next digit, where it may follow the digits of v.
+pub fn further(reader: &Reader<'_>, v: u64) -> Option<u64>
+    ensures { result ≡ digit_if (goes_on v) (drop reader.now.at reader.now.text.now) }
 {
-    if v == 0 {
-        return false;
+    let after_zero = v == 0;
+    let full = 1_000_000_000_000 <= v;
+    match reader.next_byte() {
+        Some(b) if !after_zero && !full && b.is_ascii_digit() => Some(u64::from(b - b'0')),
+        _ => None,
     }
-    if 1_000_000_000_000 <= v {
-        return false;
-    }
-    if b < 48 {
-        return false;
-    }
-    b <= 57
-}
-
-// The digit's number.
-pub fn value_of(b: u8) -> u64
-    requires { 48 ≤ b }
-    ensures { result ≡ b - 48 }
-{
-    (b as u64) - 48
 }

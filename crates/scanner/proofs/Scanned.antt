@@ -1,15 +1,16 @@
 -- What was parsed one after the other, and said of another value. Assumes nothing.
 use Prim.Native.Nat.{ℕ}
 use mathlib.Core.List.{List}
-use mathlib.Core.Path.{◌∙◌, subst}
-use Rattle.std.specs.Prelude.{Result, Ok, Err}
+use mathlib.Core.Path.{◌≡◌, ◌∙◌, subst}
+use Rattle.std.specs.Prelude.{Result, Ok, Err, IsErrAnd}
+use Rattle.std.proofs.lemmas.Result.{err_from_is_err_and}
 use Rattle.forms.specs.Form.{Form}
 use Rattle.forms.specs.Combined.{sequence, via}
 use Rattle.forms.proofs.Form.{Laws}
 use Rattle.forms.proofs.Place.{found_both, stops_first, stops_second, found_via, stops_via}
 use Rattle.scanner.specs.declared.Reader.{Reader}
 use Rattle.scanner.specs.declared.Stop.{Stop}
-use Rattle.scanner.specs.Scans.{Parsed, Scans, ok_as}
+use Rattle.scanner.specs.Scans.{Parsed, Scans, ok_as, ScansAs}
 
 module _ {A B : Type 0} {p : Form A} (P : Laws p) (q : Form B) (from mid : Reader) where
   -- the first stopped, and so both did
@@ -38,3 +39,11 @@ scans_via {A} {B} p f Valid text from x next z = record { same_text = z.same_tex
     go : (x : Result A Stop) → Parsed p from.text.now from.at x next.at → Parsed (via p f Valid text) from.text.now from.at (ok_as f x) next.at
     go (Ok a) z = found_via p f Valid text from.text.now z
     go (Err stop) z = stops_via p f Valid text from.text.now z
+
+-- what a `?` gives on is the Stop that it met
+module _ {A : Type 0} (p : Form A) (from next : Reader) (stop : Stop) where
+  pub scans_stop : (r : Result A Stop) → IsErrAnd r (λ e. e ≡ stop) → Scans p from (Err stop) next → Scans p from r next
+  scans_stop r same s = let given = err_from_is_err_and r same in rw (given.1, given.2) s
+
+  pub scans_stop_as : {R : Type 0} (keep : A → R) (r : Result R Stop) → IsErrAnd r (λ e. e ≡ stop) → Scans p from (Err stop) next → ScansAs p keep from r next
+  scans_stop_as keep r same s = let given = err_from_is_err_and r same in rw (given.1, given.2) s

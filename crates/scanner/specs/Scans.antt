@@ -25,3 +25,8 @@ module _ {A : Type 0} (p : Form A) where
 abbrev pub ok_as : {A B : Type 0} → (A → B) → Result A Stop → Result B Stop
 ok_as f (Ok a) = Ok (f a)
 ok_as f (Err stop) = Err stop
+
+-- the same, said of the record in which a value is kept
+abbrev pub ScansAs : {A R : Type 0} → Form A → (A → R) → Reader → Result R Stop → Reader → Type 0
+ScansAs {A} p keep from (Ok r) next = (a : A) × (r ≡ keep a) × Scans p from (Ok a) next
+ScansAs p keep from (Err stop) next = Scans p from (Err stop) next

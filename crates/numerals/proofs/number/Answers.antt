@@ -1,40 +1,60 @@
 -- The loop keeps the value of the digits passed and that they begin a number; it ends before the first byte that is no further digit. Assumes nothing.
-use Rattle.std.proofs.Common.{arith, refl, sym}
-use Rattle.forms.specs.Number.{number}
-use Rattle.scanner.proofs.Steps.{found, halted}
-use Rattle.numerals.proofs.Numbers.{number_none, number_first, number_ends, number_stops, number_goes}
+use Rattle.std.proofs.Common.{rules, arith, ◌<◌, length, refl, sym}
+use Rattle.forms.specs.Tests.{is_first, goes_on}
+use Rattle.numerals.proofs.Numbers.{digit_within, digit_small, number_none, number_first, number_goes, number_done}
 use Rattle.numerals.proofs.number.Goals as goal
 
-pub returns-then-not-is_first_at-clause-scans : goal.returns-then-not-is_first_at-clause-scans
-returns-then-not-is_first_at-clause-scans c =
-    let a = c.args in
-    rw c.no_number.ensures
-    (halted (number a.least) a.text.now a.from 0 c.if-from.false a.from.at _ refl
-    (number_none a.least a.text.now a.from.at c.requires.within (sym c.if-not-is_first_at.ensures)))
+pub returns-in_default-clause-scans : goal.returns-in_default-clause-scans
+returns-in_default-clause-scans c = number_none c.args.least c.args.reader.now (sym c.in_default.ensures)
 
-pub loop-i-init : goal.loop-i-init
-loop-i-init c =
-    let a = c.args in
-    number_first a.least a.text.now a.from.at c.value_of-value.result (sym c.if-not-is_first_at.ensures) c.value_of-value.ensures
+pub overflow_add-reader : goal.overflow_add-reader
+overflow_add-reader c =
+    let r = c.args.reader.now in
+    let within : r.at < length r.text.now = digit_within (is_first c.args.least) r.text.now r.at c.in-Some.value (sym c.in-Some.ensures) in
+    search rules
 
-pub returns-then-not-goes_on-clause-scans : goal.returns-then-not-goes_on-clause-scans
-returns-then-not-goes_on-clause-scans c =
-    let a = c.args in
-    let l = c.loop-i in
-    rw c.number_to.ensures
-    (found (number a.least) a.text.now a.from l.value c.if-from.false l.i _ refl
-    (number_stops a.least a.text.now a.from.at l.value l.i l.invariant (omega arith) (sym c.if-not-goes_on.ensures)))
+pub invariant_of-reader : goal.invariant_of-reader
+invariant_of-reader c =
+    let r = c.args.reader.now in
+    let within : r.at < length r.text.now = digit_within (is_first c.args.least) r.text.now r.at c.in-Some.value (sym c.in-Some.ensures) in
+    search rules
 
-pub loop-i-preserved : goal.loop-i-preserved
-loop-i-preserved c =
-    let a = c.args in
-    let l = c.loop-i in
-    number_goes a.least a.text.now a.from.at l.value l.i l.invariant (omega arith) c.value_of.result (sym c.if-not-goes_on.ensures) c.value_of.ensures
+pub loop-digit-init : goal.loop-digit-init
+loop-digit-init c = number_first c.args.least c.args.reader.now c.in-Some.value (sym c.in-Some.ensures) _ refl refl
+
+pub overflow_add-value : goal.overflow_add-value
+overflow_add-value c =
+    let l = c.loop-digit in
+    let small = digit_small l.value _ c.in-Some-further.digit (sym c.in-Some-further.ensures) in
+    search rules
+
+pub overflow_add-reader-in-Some-further : goal.overflow_add-reader-in-Some-further
+overflow_add-reader-in-Some-further c =
+    let r = c.loop-digit.reader in
+    let within : r.at < length r.text.now =
+    digit_within (goes_on c.loop-digit.value) r.text.now r.at c.in-Some-further.digit (sym c.in-Some-further.ensures) in
+    search rules
+
+pub invariant_of-reader-in-Some-further : goal.invariant_of-reader-in-Some-further
+invariant_of-reader-in-Some-further c =
+    let r = c.loop-digit.reader in
+    let within : r.at < length r.text.now =
+    digit_within (goes_on c.loop-digit.value) r.text.now r.at c.in-Some-further.digit (sym c.in-Some-further.ensures) in
+    search rules
+
+pub loop-digit-smaller : goal.loop-digit-smaller
+loop-digit-smaller c =
+    let r = c.loop-digit.reader in
+    let within : r.at < length r.text.now =
+    digit_within (goes_on c.loop-digit.value) r.text.now r.at c.in-Some-further.digit (sym c.in-Some-further.ensures) in
+    omega arith
+
+pub loop-digit-preserved : goal.loop-digit-preserved
+loop-digit-preserved c =
+    let l = c.loop-digit in
+    number_goes c.args.least c.args.reader.now l.value l.reader l.invariant c.in-Some-further.digit (sym c.in-Some-further.ensures) _ refl refl
 
 pub returns-clause-scans : goal.returns-clause-scans
 returns-clause-scans c =
-    let a = c.args in
-    let l = c.loop-i in
-    rw c.number_to-2.ensures
-    (found (number a.least) a.text.now a.from l.value c.if-from.false l.i _ refl
-    (number_ends a.least a.text.now a.from.at l.value l.i l.invariant (omega arith)))
+    let l = c.loop-digit in
+    number_done c.args.least c.args.reader.now l.value l.reader l.invariant (sym c.in_default-further.ensures)
