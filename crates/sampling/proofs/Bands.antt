@@ -10,12 +10,14 @@ use borrow.Author.Tests.{ltb-true, leb-true, lt-ltb, le-leb}
 use lib.Dec.{leb, ltb}
 use lib.ListN.{length, get_or, take}
 use lib.Seq.{slice, get_or-take, length-take-le}
+use Rattle.std.specs.Prelude.{Err}
 use Rattle.lists.specs.All.{All}
 use Rattle.lists.proofs.Slices.{slice_next, slice_done}
 use Rattle.lists.proofs.Tests.{both_left, both_right}
 use Rattle.refusal.specs.Checks.{unless}
 use Rattle.refusal.specs.declared.Rule.TheVariants.{SamplingTable}
-use Rattle.refusal.specs.Verdict.{Accepted, Refused}
+use Rattle.refusal.specs.declared.Refusal.{Refusal}
+use Rattle.refusal.specs.Verdict.{Verdict, Accepted}
 use Rattle.refusal.proofs.Firsts.{only, all_passed, test_holds}
 use Rattle.sampling.specs.declared.Band.{Band}
 use Rattle.sampling.specs.Sampling.{band}
@@ -26,13 +28,16 @@ module _ (line : ℕ) (before : Band) (bs : List Band) (i n : ℕ) (more : i < n
   abbrev here : Band
   here = get_or bs i (band 0 0)
 
-  pub bands_next : band_keeps before here ≡ true → bands_verdict line before (slice i n bs) ≡ bands_verdict (line + 1) here (slice (i + 1) n bs)
+  abbrev check : Verdict
+  check = unless (band_keeps before here) SamplingTable line
+
+  pub bands_next : check ≡ Accepted → bands_verdict line before (slice i n bs) ≡ bands_verdict (line + 1) here (slice (i + 1) n bs)
   unfolding bands_verdict
   bands_next e = ap (bands_verdict line before) (slice_next bs i n (band 0 0) more held) ∙ rw e (only _)
 
-  pub bands_stop : band_keeps before here ≡ false → bands_verdict line before (slice i n bs) ≡ Refused SamplingTable line
+  pub bands_stop : (refusal : Refusal) → check ≡ Err refusal → bands_verdict line before (slice i n bs) ≡ Err refusal
   unfolding bands_verdict
-  bands_stop e = ap (bands_verdict line before) (slice_next bs i n (band 0 0) more held) ∙ rw e
+  bands_stop refusal e = ap (bands_verdict line before) (slice_next bs i n (band 0 0) more held) ∙ rw e
 
 pub bands_done : (line : ℕ) (before : Band) (bs : List Band) (i n : ℕ) → i ≤ n → n ≤ i → bands_verdict line before (slice i n bs) ≡ Accepted
 unfolding bands_verdict
