@@ -1,3 +1,4 @@
+-- The bids passed are accepted: what is said of all of them is said of those left, from their line on.
 use Rattle.std.proofs.Common.{◌≡◌, ◌+◌, length, map}
 use Rattle.book.specs.Entries.{bid_entries}
 use Rattle.book.specs.Rules.{bids_verdict}

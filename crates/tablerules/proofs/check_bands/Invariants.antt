@@ -1,3 +1,4 @@
+-- The bands passed are accepted: what is said of all of them is said of those left, from their line on.
 use Rattle.std.proofs.Common.{◌≡◌, ◌+◌, length}
 use Rattle.std.proofs.Math.Seq.{slice}
 use Rattle.sampling.specs.Sampling.{band}

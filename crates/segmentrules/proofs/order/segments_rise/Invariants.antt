@@ -1,3 +1,4 @@
+-- The segments passed rise up to the end before: what rule 7 says of all of them, it says of those left.
 use Rattle.std.proofs.Common.{◌≡◌, length}
 use Rattle.std.proofs.Math.Seq.{slice}
 use Rattle.book.specs.Rules.{segments_rise}
