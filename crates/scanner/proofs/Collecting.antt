@@ -1,5 +1,5 @@
 -- A loop that parses items one after the other and adds them to a record. Assumes nothing.
-use Prim.Native.Nat.{ℕ, ◌+◌, ◌≤◌}
+use Prim.Native.Nat.{ℕ, ◌+◌, ◌-◌, ◌≤◌, ◌<◌}
 use native.Mathlib.Omega.{arith}
 use mathlib.Core.Bool.{true, false}
 use mathlib.Core.List.{List, [], ◌∷◌, ◌++◌, foldl, foldl-append, append_assoc, append-nil}
@@ -19,6 +19,10 @@ use Rattle.forms.proofs.Place.{found_both, stops_first, stops_second, found_via,
 use Rattle.scanner.specs.declared.Reader.{Reader}
 use Rattle.scanner.specs.declared.Stop.{Stop}
 use Rattle.scanner.specs.Scans.{Scans}
+
+-- the bytes from the reader's place on
+abbrev pub left : Reader → ℕ
+left here = length here.text.now - here.at
 
 module _ {A R : Type 0} (x : ℕ) (p : Form A) (P : Laws p) (heads : FirstByte x p) (add : R → A → R) (count : R → ℕ) (start : Reader) (k : R) where
   abbrev t : List ℕ
@@ -79,6 +83,11 @@ module _ {A R : Type 0} (x : ℕ) (p : Form A) (P : Laws p) (heads : FirstByte x
                 (so_far.goes_on (a ∷ xs) g (item_then x p P heads t here.at (at_start true begins) f m));
             breaks_off = λ g m. so_far.breaks_off g (item_then_stops x p P heads t here.at (at_start true begins) f m);
           }
+
+      -- fewer bytes are left after it
+      pub left_falls : (a : A) (next : Reader) → Scans p here (Ok a) next → left next < left here
+      left_falls a next item =
+          let m = moves x p P heads here.text.now item.parsed in omega (arith, m, ap length item.same_text, next.inside)
 
       -- one that is broken off
       pub collected_stops : (stop : Stop) (next : Reader) → Scans p here (Err stop) next → Scans L start (Err stop) next
