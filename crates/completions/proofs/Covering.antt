@@ -17,15 +17,21 @@ use Rattle.charges.specs.Charge.{charges}
 use Rattle.charges.specs.Records.{UpTo}
 use Rattle.completions.specs.Classes.{Has, Covers, Graded}
 use Rattle.completions.specs.Steps.{Put, ExtendedByBid}
-use Rattle.completions.proofs.Table.{put_at}
+use Rattle.completions.proofs.Putting.{put_at}
 use Rattle.completions.proofs.Extending.{covers_wider}
 
 -- the class of what no bidder adds: nothing, without a charge
 abbrev pub nothing : Sums
-nothing = record { low = record { 0 = 0 }; high = record { 0 = 1 }; first = 0; second = 0 }
+nothing = record { low = record { 0 = 0 }; high = record { 0 = 1 }; charges = record { first = 0; second = 0 } }
+
+-- with it a table is graded still
+pub graded_end : {before after : List Sums} (n : ℕ) → Put before (32 * n) nothing after → Graded before → Graded after
+graded_end n put graded = record {
+  up_to = λ at left class h l. put_at put (UpTo left) (32 * at + class) (λ p. omega arith) (graded.up_to at left class h l);
+}
 
 module _ (order : Order) (prices : Prices) where
-  covers_end : {before after : List ℕ} (at : ℕ) → Put before (32 * at) nothing after → Covers order prices after at []
+  covers_end : {before after : List Sums} (at : ℕ) → Put before (32 * at) nothing after → Covers order prices after at []
   unfolding bought
   covers_end {before} {after} at put = record { has = has }
     where
@@ -38,21 +44,16 @@ module _ (order : Order) (prices : Prices) where
           record { class = 0; within = omega arith; admits = rw (first, put.here) (omega arith) }
 
   -- of n supply functions, those from the bidder i on
-  pub record CoversFrom (supplies : List (List Segment)) (n i : ℕ) (table : List ℕ) : Type 0 where
-    pub graded : Graded table
+  pub record CoversFrom (supplies : List (List Segment)) (n i : ℕ) (table : List Sums) : Type 0 where
     pub covers : (at : ℕ) → i ≤ at → at ≤ n → Covers order prices table at (drop at supplies)
 
   module _ (supplies : List (List Segment)) (n : ℕ) where
-    pub from_none : {before after : List ℕ} → Put before (32 * n) nothing after → Graded before → drop n supplies ≡ []
-        → CoversFrom supplies n n after
-    from_none put graded e = record {
-      graded = record { up_to = λ at left class h l. put_at put (UpTo left) (32 * at + class) (λ p. omega arith) (graded.up_to at left class h l) };
-      covers = λ at low high. let same : at ≡ n = omega arith in rw (same, e) (covers_end n put);
-    }
+    pub from_none : {before after : List Sums} → Put before (32 * n) nothing after → drop n supplies ≡ [] → CoversFrom supplies n n after
+    from_none put e = record { covers = λ at low high. let same : at ≡ n = omega arith in rw (same, e) (covers_end n put) }
 
-    pub from_next : {table after : List ℕ} (i : ℕ) (supply : List Segment) → i < n → drop i supplies ≡ supply ∷ drop (i + 1) supplies
+    pub from_next : {table after : List Sums} (i : ℕ) (supply : List Segment) → i < n → drop i supplies ≡ supply ∷ drop (i + 1) supplies
         → CoversFrom supplies n (i + 1) table → ExtendedByBid order i prices supply table after → CoversFrom supplies n i after
-    from_next {table} {after} i supply h e later next = record { graded = next.graded; covers = λ at low high. same_or_not at i this (after_it at low high) }
+    from_next {table} {after} i supply h e later next = record { covers = λ at low high. same_or_not at i this (after_it at low high) }
       where
         this : {at : ℕ} → at ≡ i → Covers order prices after at (drop at supplies)
         this p = rw (p, e) (next.covers (drop (i + 1) supplies) (later.covers (i + 1) (omega arith) (omega arith)))

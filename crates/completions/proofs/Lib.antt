@@ -1,4 +1,4 @@
-pub mod Table
+pub mod Putting
 pub mod Classes
 pub mod Extending
 pub mod Covering
