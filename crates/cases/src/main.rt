@@ -3,61 +3,53 @@
 #![tactic(auto)]
 
 // Standard input cut into cases; answers about texts, records and sampling tables, and how they are printed.
-mod pieces;
+mod question;
 mod records;
 mod show;
 mod tables;
 mod texts;
 
-use input::Input;
+use question::{Case, Question};
 use std::io;
+use std::io::{Error, ErrorKind};
 
 fn main(rt: HostRuntime) -> io::Result<()> {
     let mut bytes = [0u8; 65536];
-    let mut stdin = rt.stdin();
-    match input::read(&mut stdin, &mut bytes) {
-        Input::Bytes(n) => run(&rt, &bytes[..n]),
-        Input::Failed(error) => Err(error),
+    let n = input::read(&mut rt.stdin(), &mut bytes)?;
+    match str::from_utf8(&bytes[..n]) {
+        Ok(text) => run(&rt, text),
+        Err(_) => Err(Error::from(ErrorKind::InvalidData)),
     }
 }
 
-// Answers each case; the text, the record or the table that it is about begins at `about`.
-fn run(rt: &HostRuntime, bytes: &[u8]) -> io::Result<()> {
-    let mut about: usize = 0;
-    let mut at = pieces::place(bytes, 0, b'%');
-    while at < bytes.len() {
-        at += 1;
-        about = subject(bytes, about, at);
-        answer(rt, bytes, about, at)?;
-        at = pieces::place(bytes, at, b'%');
+// Answers each case. What it is about is the text, the record or the table that stands last.
+fn run(rt: &HostRuntime, text: &str) -> io::Result<()> {
+    let mut about = Case::of("");
+    for part in text.split('%').skip(1) {
+        let case = Case::of(part);
+        if matches!(case.word(), "text" | "book" | "load") {
+            about = case;
+        }
+        answer(rt, about, case)?;
     }
     Ok(())
 }
 
-// Where the text, the record or the table begins that a case is about: at the case, if it is one, or where it began before.
-fn subject(bytes: &[u8], before: usize, at: usize) -> usize {
-    match pieces::byte(bytes, at) {
-        b't' | b'b' | b'l' => at,
-        _ => before,
-    }
-}
-
 // A number in the line is the length of an output, or numbers are the quantities of a split.
-fn answer(rt: &HostRuntime, bytes: &[u8], about: usize, at: usize) -> io::Result<()> {
-    let line = pieces::line(bytes, at);
-    let body = pieces::body(bytes, about);
-    show::line(rt, line)?;
-    let mut numbers = [0u64; 270];
-    let last = pieces::numbers(line, &mut numbers);
-    let size = (numbers[1] % 600) as usize;
-    let quantities = pieces::to_last(&numbers, last);
+fn answer(rt: &HostRuntime, about: Case, case: Case) -> io::Result<()> {
+    let line = case.line;
+    println!(rt; "{line}")?;
+    let numbers = case.numbers(rt.alloc())?;
+    let question = Question {
+        word: case.word(),
+        body: about.body,
+        numbers: numbers.as_slice(),
+    };
     let mut out = [b'.'; 600];
-    let kind = pieces::byte(bytes, about);
-    if kind == b'l' {
-        return tables::answer(rt, line, body, quantities, &mut out[0..size]);
+    let out = &mut out[..question.size()];
+    match about.word() {
+        "load" => tables::answer(rt, question, out),
+        "text" => texts::answer(rt, question, out),
+        _ => records::answer(rt, question, out),
     }
-    if kind == b't' {
-        return texts::answer(rt, line, body, quantities, &mut out[0..size]);
-    }
-    records::answer(rt, line, body, quantities, &mut out[0..size])
 }

@@ -1,113 +1,89 @@
 // Records, made of numbers, and what is asked about them.
-ghost use Rattle.std.specs.Prelude.{◌≤◌};
-
-use crate::{pieces, show};
+use crate::question::Question;
+use crate::show;
+use crate::show::Shown;
 use awardwriter::Layout;
 use book::{Bid, Book, Order, Segment};
 use money::{Blanks, Cents, CentsPerBlank};
-use std::io;
+use output::TextWritten;
+use std::str::{FromStr, Split};
+use std::{array, io};
 
-pub fn answer(
-    rt: &HostRuntime,
-    line: &[u8],
-    numbers: &[u8],
-    quantities: &[u64],
-    out: &mut [u8],
-) -> io::Result<()> {
-    let book = book(numbers);
-    match pieces::byte(line, 0) {
-        b'b' => {
-            show::verdict(rt, bookrules::check(book))?;
-            show::line(rt, b"")
+pub fn answer(rt: &HostRuntime, question: Question, out: &mut [u8]) -> io::Result<()> {
+    let book = book(question.body);
+    match question.word {
+        "book" => println!(rt; "{}", Shown(bookrules::check(book))),
+        "figures" => show::figures(rt, sizes::sizes(book)),
+        "price" => show::price(rt, split::price_split(book, question.numbers)),
+        "award" => award(rt, Layout::Sheet, book, out),
+        "onpage" => award(rt, Layout::Page, book, out),
+        "write" => {
+            let written = bookwriter::write(book, out);
+            show::output(rt, written, out)
         }
-        b'f' => show::figures(rt, sizes::sizes(book)),
-        b'p' => show::price(rt, split::price_split(book, quantities)),
-        b'a' => award(rt, Layout::Sheet, book, out),
-        b'o' => award(rt, Layout::Page, book, out),
-        b'w' => {
-            let w = bookwriter::write(book, out);
-            show::output(rt, w, out)
-        }
-        _ => sample(rt, quantities),
+        _ => sample(rt, question.numbers),
     }
 }
 
 // The award written in a layout, also the empty one beside a refusal.
 fn award(rt: &HostRuntime, layout: Layout, book: Book, out: &mut [u8]) -> io::Result<()> {
     let cleared = clearing::clear(book);
-    let verdict = cleared.verdict;
-    let award = cleared.award;
-    let w = awardwriter::write(layout, award, out);
-    show::answer(rt, verdict, w.bytes)?;
-    show::line(rt, out)
+    let written = TextWritten {
+        verdict: cleared.verdict,
+        bytes: awardwriter::write(layout, cleared.award, out).bytes,
+    };
+    show::output(rt, written, out)
 }
 
 // Of the first quantity.
 fn sample(rt: &HostRuntime, quantities: &[u64]) -> io::Result<()> {
-    if 0 < quantities.len() {
-        return show::number(rt, sampling::sample(Blanks(quantities[0])).0);
-    }
-    Ok(())
+    let Some(quantity) = quantities.first() else {
+        return Ok(());
+    };
+    show::sample(rt, sampling::sample(Blanks(*quantity)))
 }
 
-// The first row has the demand, the allowance and the count of bids, each further row the bidder, the carriage, the count
+// The first line has the demand, the allowance and the count of bids, each further line the bidder, the carriage, the count
 // of segments, and the segments.
-fn book(text: &[u8]) -> Book {
-    let mut n = [0u64; 270];
-    pieces::numbers(text, &mut n);
+fn book(text: &str) -> Book {
+    let mut lines = text.split('\n');
+    let mut words = lines.next().unwrap_or("").split(' ');
     Book {
         order: Order {
-            demand: Blanks(n[0]),
-            allowance: Blanks(n[1]),
+            demand: Blanks(number(&mut words)),
+            allowance: Blanks(number(&mut words)),
         },
-        count: n[2] as usize,
-        bids: [
-            bid(&n, 27),
-            bid(&n, 54),
-            bid(&n, 81),
-            bid(&n, 108),
-            bid(&n, 135),
-            bid(&n, 162),
-            bid(&n, 189),
-            bid(&n, 216),
-        ],
+        count: number(&mut words),
+        bids: array::from_fn(|_| bid(lines.next().unwrap_or(""))),
     }
 }
 
-fn bid(n: &[u64; 270], at: usize) -> Bid
-    requires { at ≤ 216 }
-{
+fn bid(line: &str) -> Bid {
+    let mut words = line.split(' ');
     Bid {
-        bidder: n[at],
-        carriage: CentsPerBlank(n[at + 1]),
-        count: n[at + 2] as usize,
-        segments: [
-            segment(n, at + 3),
-            segment(n, at + 7),
-            segment(n, at + 11),
-            segment(n, at + 15),
-            segment(n, at + 19),
-            segment(n, at + 23),
-        ],
+        bidder: number(&mut words),
+        carriage: CentsPerBlank(number(&mut words)),
+        count: number(&mut words),
+        segments: array::from_fn(|_| segment(&mut words)),
     }
 }
 
-fn segment(n: &[u64; 270], at: usize) -> Segment
-    requires { at ≤ 250 }
-{
-    let fixed = cents(n[at + 3]);
+fn segment(words: &mut Split<'_, char>) -> Segment {
     Segment {
-        start: Blanks(n[at]),
-        end: Blanks(n[at + 1]),
-        unit: CentsPerBlank(n[at + 2]),
-        fixed,
+        start: Blanks(number(words)),
+        end: Blanks(number(words)),
+        unit: CentsPerBlank(number(words)),
+        fixed: Cents(number(words)),
     }
 }
 
-fn cents(n: u64) -> Cents {
-    if n < pieces::NEGATIVE {
-        return Cents(n as i64);
-    }
-    let magnitude = (n - pieces::NEGATIVE) % 10_000_000_000_000;
-    Cents(-(magnitude as i64))
+// The next word as a number; 0 where it is left out.
+fn number<T: FromStr + Default>(words: &mut Split<'_, char>) -> T
+where
+    T::Err: Drop,
+{
+    words
+        .next()
+        .and_then(|word| word.parse().ok())
+        .unwrap_or_default()
 }

@@ -1,65 +1,55 @@
 // Answers as lines of standard output.
-use money::Cents;
+use money::Blanks;
 use output::TextWritten;
 use refusal::Verdict;
 use sizes::BookSizes;
 use split::SplitPrice;
-use std::io;
 use std::io::Write;
+use std::{fmt, io};
 
-pub fn text(rt: &HostRuntime, text: &[u8]) -> io::Result<()> {
-    let mut stdout = rt.stdout();
-    stdout.write_all(text)
-}
+// A verdict as it is shown.
+#[derive(Clone, Copy)]
+pub struct Shown(pub Verdict);
 
-pub fn line(rt: &HostRuntime, words: &[u8]) -> io::Result<()> {
-    text(rt, words)?;
-    text(rt, b"\n")
-}
-
-pub fn number(rt: &HostRuntime, n: u64) -> io::Result<()> {
-    println!(rt; "{n}")
-}
-
-pub fn verdict(rt: &HostRuntime, verdict: Verdict) -> io::Result<()> {
-    if let Ok(()) = verdict {
-        return print!(rt; "accepted");
+impl fmt::Display for Shown {
+    fn fmt<W: fmt::Write>(&self, f: &mut fmt::Formatter<W>) -> fmt::Result {
+        let verdict = self.0;
+        if verdict.is_ok() {
+            return write!(f, "accepted");
+        }
+        let number = refusal::number(verdict);
+        let place = refusal::place(verdict);
+        write!(f, "(refused {number} {place})")
     }
-    let number = refusal::number(verdict);
-    let place = refusal::place(verdict);
-    print!(rt; "(refused {number} {place})")
 }
 
-// A verdict and the number beside it.
-pub fn answer(rt: &HostRuntime, v: Verdict, n: u64) -> io::Result<()> {
-    verdict(rt, v)?;
-    println!(rt; ", {n}")
-}
-
-// The bytes of a book's text, its choices of segments, and the most bytes of its sheet.
-pub fn figures(rt: &HostRuntime, s: BookSizes) -> io::Result<()> {
-    verdict(rt, s.verdict)?;
-    let bytes = s.bytes;
-    let choices = s.choices;
-    let sheet = s.sheet;
-    println!(rt; ", {bytes}, {choices}, {sheet}")
+pub fn bytes(rt: &HostRuntime, bytes: &[u8]) -> io::Result<()> {
+    rt.stdout().write_all(bytes)
 }
 
 // What a writer answered, and the whole output.
-pub fn output(rt: &HostRuntime, w: TextWritten, out: &[u8]) -> io::Result<()> {
-    answer(rt, w.verdict, w.bytes)?;
-    line(rt, out)
+pub fn output(rt: &HostRuntime, written: TextWritten, out: &[u8]) -> io::Result<()> {
+    println!(rt; "{}, {}", Shown(written.verdict), written.bytes)?;
+    bytes(rt, out)?;
+    bytes(rt, b"\n")
 }
 
-pub fn price(rt: &HostRuntime, s: SplitPrice) -> io::Result<()> {
-    verdict(rt, s.verdict)?;
-    let price = s.price;
-    let sign = if money::at_most(Cents(0), price) {
-        ""
-    } else {
-        "-"
-    };
-    let magnitude = money::magnitude(price);
-    let meets = if s.meets { "yes" } else { "no" };
-    println!(rt; ", {sign}{magnitude}, {meets}")
+// The bytes of a book's text, its choices of segments, and the most bytes of its sheet.
+pub fn figures(rt: &HostRuntime, figures: BookSizes) -> io::Result<()> {
+    println!(rt;
+        "{}, {}, {}, {}",
+        Shown(figures.verdict),
+        figures.bytes,
+        figures.choices,
+        figures.sheet
+    )
+}
+
+pub fn price(rt: &HostRuntime, split: SplitPrice) -> io::Result<()> {
+    let meets = if split.meets { "yes" } else { "no" };
+    println!(rt; "{}, {}, {meets}", Shown(split.verdict), split.price.0)
+}
+
+pub fn sample(rt: &HostRuntime, sample: Blanks) -> io::Result<()> {
+    println!(rt; "{}", sample.0)
 }

@@ -1,9 +1,6 @@
--- The beginnings are shorter than the text.
-use Rattle.std.proofs.Common.{◌-◌, ◌≤◌, length}
+-- A turn counts at most one beginning, so that the count never passes the turns.
+use Rattle.std.proofs.Common.{◌≤◌}
 use Rattle.cases.proofs.texts.cuts.Given as goal
 
-abbrev pub invariant-loop-n : goal.invariant-loop-n
-invariant-loop-n l = l.n ≤ length l.text
-
-abbrev pub decreases-loop-n : goal.decreases-loop-n
-decreases-loop-n l = length l.text - l.n
+abbrev pub invariant-loop-end : goal.invariant-loop-end
+invariant-loop-end l = l.refused ≤ l.end-counter
