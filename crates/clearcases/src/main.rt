@@ -7,11 +7,13 @@ mod agree;
 mod small_books;
 mod splits;
 
-use small_books::SmallBook;
+use book::Book;
+use refusal::Rule;
+use small_books::{Numbers, SmallBook};
 use std::io;
 
 // `small_books` should make no book that is refused by a rule before 9.
-#[derive(Clone, Copy)]
+#[derive(Clone, Copy, Default)]
 struct Counts {
     refused: u64,
     covered: u64,
@@ -23,61 +25,46 @@ struct Counts {
 }
 
 fn main(rt: HostRuntime) -> io::Result<()> {
-    let c = count();
-    line(&rt, "small books refused: ", c.refused)?;
-    line(&rt, "small books covered: ", c.covered)?;
-    line(&rt, "small books not covered: ", c.not_covered)?;
-    line(&rt, "with a tie for the cheapest: ", c.ties)?;
-    line(&rt, "bought above the demand: ", c.above)?;
-    line(&rt, "cleared alike both ways: ", c.alike)?;
-    line(&rt, "cleared differently: ", c.different)
-}
-
-fn line(rt: &HostRuntime, name: &str, n: u64) -> io::Result<()> {
-    println!(rt; "{name}{n}")
-}
-
-fn count() -> Counts {
-    let mut c = Counts {
-        refused: 0,
-        covered: 0,
-        not_covered: 0,
-        ties: 0,
-        above: 0,
-        alike: 0,
-        different: 0,
-    };
-    let mut x: u64 = 1;
-    let mut i: u64 = 0;
-    while i < 400 {
-        c = counted(c, small_books::book(x));
-        x = small_books::next_book(x);
-        i += 1;
+    let mut numbers = Numbers::new();
+    let mut counts = Counts::default();
+    for _ in 0..400 {
+        counts.add(&small_books::book(&mut numbers));
     }
-    c
+    counts.print(&rt)
 }
 
-fn counted(c: Counts, book: SmallBook) -> Counts {
-    let best = splits::clear(book, 3);
-    let r = clearing::clear(small_books::record(book));
-    let verdict = r.verdict;
-    let number = refusal::number(verdict);
-    let same = agree::agrees(book, best, r);
-    Counts {
-        refused: one_if(c.refused, number % 9 != 0),
-        covered: one_if(c.covered, best.total < splits::NONE),
-        not_covered: one_if(c.not_covered, best.total == splits::NONE),
-        ties: one_if(c.ties, best.tie),
-        above: one_if(c.above, book.demand < splits::bought(best.split)),
-        alike: one_if(c.alike, same),
-        different: one_if(c.different, !same),
+impl Counts {
+    fn add(&mut self, book: &SmallBook) {
+        let cleared = clearing::clear(Book::from(*book));
+        let best = splits::clear(book, None);
+        let same = agree::agrees(book, best, cleared);
+        let other = matches!(cleared.verdict, Err(refusal) if refusal.rule != Rule::NotCovered);
+        tally(&mut self.refused, other);
+        tally(&mut self.covered, best.is_some());
+        tally(&mut self.not_covered, best.is_none());
+        if let Some(best) = best {
+            tally(&mut self.ties, best.tie);
+            tally(
+                &mut self.above,
+                u16::from(book.demand) < splits::bought(best.split),
+            );
+        }
+        tally(&mut self.alike, same);
+        tally(&mut self.different, !same);
+    }
+
+    fn print(&self, rt: &HostRuntime) -> io::Result<()> {
+        println!(rt; "small books refused: {}", self.refused)?;
+        println!(rt; "small books covered: {}", self.covered)?;
+        println!(rt; "small books not covered: {}", self.not_covered)?;
+        println!(rt; "with a tie for the cheapest: {}", self.ties)?;
+        println!(rt; "bought above the demand: {}", self.above)?;
+        println!(rt; "cleared alike both ways: {}", self.alike)?;
+        println!(rt; "cleared differently: {}", self.different)
     }
 }
 
-// One more where it is so. The counts are far from where they would wrap.
-fn one_if(n: u64, yes: bool) -> u64 {
-    if yes {
-        return n.wrapping_add(1);
-    }
-    n
+// One more where it is so.
+fn tally(count: &mut u64, yes: bool) {
+    *count = count.saturating_add(u64::from(yes));
 }

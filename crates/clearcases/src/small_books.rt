@@ -1,77 +1,87 @@
 // Small books made by a fixed rule: demands from 1 to 8, allowances from 0 to 3 as far as both together are at most 8, one to
 // three bids of one to three segments, with carriages from 0 to 3.
-// The rule goes from a number to the next, and takes several small numbers from each by division and remainder.
-ghost use Rattle.std.specs.Prelude.{◌+◌, ◌≤◌};
+// The rule takes several small numbers from each number of a row by division and remainder.
+ghost use Rattle.std.specs.Prelude.{◌+◌, ◌≤◌, length};
 
 use book::{Bid, Book, Order, Segment};
 use money::{Blanks, Cents, CentsPerBlank};
+use std::array;
 
-// The fixed price is `more - off`.
 #[derive(Clone, Copy)]
 pub struct SmallSegment {
-    pub start: u64,
-    pub end: u64,
-    pub unit: u64,
-    pub more: u64,
-    pub off: u64,
+    pub start: u8,
+    pub end: u8,
+    pub unit: u8,
+    pub fixed: i16,
 }
 
 // The first `count` of three segments.
 #[derive(Clone, Copy)]
 pub struct SmallBid {
-    pub bidder: u64,
-    pub carriage: u64,
+    pub bidder: u8,
+    pub carriage: u8,
     pub count: usize,
-    pub first: SmallSegment,
-    pub second: SmallSegment,
-    pub third: SmallSegment,
+    pub segments: [SmallSegment; 3],
 }
 
 // The first `count` of three bids.
 #[derive(Clone, Copy)]
 pub struct SmallBook {
-    pub demand: u64,
-    pub allowance: u64,
+    pub demand: u8,
+    pub allowance: u8,
     pub count: usize,
     pub bids: [SmallBid; 3],
 }
 
-// The number after x, in the order of Lehmer's generator.
-fn next(x: u64) -> u64 {
-    x % 2_147_483_647 * 48_271 % 2_147_483_647
+impl SmallBid {
+    pub fn listed(&self) -> &[SmallSegment]
+        ensures { length result.now ≤ 3 }
+    {
+        &self.segments[..self.count.min(3)]
+    }
 }
 
-// A bid takes four numbers.
-fn next_bid(x: u64) -> u64 {
-    next(next(next(next(x))))
+impl SmallBook {
+    pub fn listed(&self) -> &[SmallBid]
+        ensures { length result.now ≤ 3 }
+    {
+        &self.bids[..self.count.min(3)]
+    }
 }
 
-// A book takes as many as four bids.
-pub fn next_book(x: u64) -> u64 {
-    next_bid(next_bid(next_bid(next_bid(x))))
+// The numbers from one on, in the order of Lehmer's generator.
+#[derive(Drop)]
+pub struct Numbers {
+    at: u64,
 }
 
-// The book of the numbers from x on.
-pub fn book(x: u64) -> SmallBook {
-    let y = next_bid(x);
-    let z = next_bid(y);
-    let first = bid(2, y);
-    let second = bid(5, z);
-    let third = bid(7, next_bid(z));
+impl Numbers {
+    pub fn new() -> Numbers {
+        Numbers { at: 1 }
+    }
+
+    fn next(&mut self) -> u64 {
+        let number = self.at;
+        self.at = number % 2_147_483_647 * 48_271 % 2_147_483_647;
+        number
+    }
+}
+
+// A book takes as many numbers as four bids.
+pub fn book(numbers: &mut Numbers) -> SmallBook {
+    let x = numbers.next();
+    for _ in 0..3 {
+        numbers.next();
+    }
+    let demand = 1 + (x % 8) as u8;
+    let over = (x / 32 % 4) as u8;
     SmallBook {
-        demand: 1 + x % 8,
-        allowance: allowance(1 + x % 8, x / 32 % 4),
+        demand,
+        // None where both together would be above 8: no quantity of a split that is listed is.
+        allowance: if demand + over <= 8 { over } else { 0 },
         count: bids(x / 8 % 4),
-        bids: [first, second, third],
+        bids: [bid(2, numbers), bid(5, numbers), bid(7, numbers)],
     }
-}
-
-// So many, or none where the most that the order takes would be above 8: no quantity of a split that is listed is.
-fn allowance(demand: u64, over: u64) -> u64 {
-    if 8 < demand % 9 + over % 4 {
-        return 0;
-    }
-    over
 }
 
 // Three more often than one or two: most splits are theirs.
@@ -83,45 +93,40 @@ fn bids(x: u64) -> usize {
     }
 }
 
-fn bid(bidder: u64, x: u64) -> SmallBid {
-    let y = next(x);
-    let z = next(y);
-    let first = segment(x, 0);
-    let second = segment(y, first.end);
-    let third = segment(z, second.end);
+// A bid takes four numbers.
+fn bid(bidder: u8, numbers: &mut Numbers) -> SmallBid {
+    let first = segment(numbers.next(), 0);
+    let second = segment(numbers.next(), first.end);
+    let third = segment(numbers.next(), second.end);
+    let x = numbers.next();
     SmallBid {
         bidder,
-        carriage: next(z) / 3 % 4,
-        count: 1 + (next(z) % 3) as usize,
-        first,
-        second,
-        third,
+        carriage: (x / 3 % 4) as u8,
+        count: 1 + (x % 3) as usize,
+        segments: [first, second, third],
     }
 }
 
 // A segment of one to four blanks, the first or the second above the end before it, with a unit price from 0 to 3. The fixed
 // price is what some blanks up to the start cost, taken off, and 0 to 2 more: so it is often negative, prices are often
 // equal, and the price at the start is at least 0.
-fn segment(x: u64, before: u64) -> SmallSegment
+fn segment(x: u64, before: u8) -> SmallSegment
     requires { before ≤ 10 }
     ensures { result.end ≤ before + 5 }
 {
-    let start = before + 1 + x % 2;
-    let unit = x / 8 % 4;
+    let start = before + 1 + (x % 2) as u8;
+    let unit = (x / 8 % 4) as u8;
+    let off = cost(unit, some(x / 32 % 3, start));
     SmallSegment {
         start,
-        end: start + x / 2 % 4,
+        end: start + (x / 2 % 4) as u8,
         unit,
-        more: x / 96 % 3,
-        off: cost(unit, some(x / 32 % 3, start)),
+        fixed: (x / 96 % 3) as i16 - off as i16,
     }
 }
 
 // All, one or none of the blanks up to a start.
-fn some(x: u64, start: u64) -> u64
-    requires { start ≤ 12 }
-    ensures { result ≤ 12 }
-{
+fn some(x: u64, start: u8) -> u8 {
     match x {
         0 => start,
         1 => 1,
@@ -130,10 +135,10 @@ fn some(x: u64, start: u64) -> u64
 }
 
 // What blanks cost at a unit price or a carriage from 0 to 3, as a sum: only the price rule multiplies.
-pub fn cost(unit: u64, blanks: u64) -> u64
-    requires { blanks ≤ 12 }
-    ensures { result ≤ 36 }
+pub fn cost(unit: u8, blanks: u8) -> u16
+    ensures { result ≤ 765 }
 {
+    let blanks = u16::from(blanks);
     match unit {
         0 => 0,
         1 => blanks,
@@ -143,50 +148,37 @@ pub fn cost(unit: u64, blanks: u64) -> u64
 }
 
 // The book as a record. What stands past a count looks like what stands before it, so that a clearing which looks at it goes wrong.
-pub fn record(book: SmallBook) -> Book {
-    let first = book.bids[0];
-    let second = book.bids[1];
-    let third = book.bids[2];
-    let a = record_bid(first);
-    let b = record_bid(second);
-    let c = record_bid(third);
-    Book {
-        order: Order {
-            demand: Blanks(book.demand),
-            allowance: Blanks(book.allowance),
-        },
-        count: book.count,
-        bids: [a, b, c, a, b, c, a, b],
+impl From<SmallBook> for Book {
+    fn from(book: SmallBook) -> Book {
+        Book {
+            order: Order {
+                demand: Blanks(u64::from(book.demand)),
+                allowance: Blanks(u64::from(book.allowance)),
+            },
+            count: book.count,
+            bids: array::from_fn(|i| Bid::from(book.bids[i % 3])),
+        }
     }
 }
 
-fn record_bid(bid: SmallBid) -> Bid {
-    let first = bid.first;
-    let second = bid.second;
-    let third = bid.third;
-    let a = record_segment(first);
-    let b = record_segment(second);
-    let c = record_segment(third);
-    Bid {
-        bidder: bid.bidder,
-        carriage: CentsPerBlank(bid.carriage),
-        count: bid.count,
-        segments: [a, b, c, a, b, c],
+impl From<SmallBid> for Bid {
+    fn from(bid: SmallBid) -> Bid {
+        Bid {
+            bidder: u64::from(bid.bidder),
+            carriage: CentsPerBlank(u64::from(bid.carriage)),
+            count: bid.count,
+            segments: array::from_fn(|i| Segment::from(bid.segments[i % 3])),
+        }
     }
 }
 
-fn record_segment(s: SmallSegment) -> Segment {
-    let fixed = difference(s.more % 100, s.off % 100);
-    Segment {
-        start: Blanks(s.start),
-        end: Blanks(s.end),
-        unit: CentsPerBlank(s.unit),
-        fixed: Cents(fixed),
+impl From<SmallSegment> for Segment {
+    fn from(segment: SmallSegment) -> Segment {
+        Segment {
+            start: Blanks(u64::from(segment.start)),
+            end: Blanks(u64::from(segment.end)),
+            unit: CentsPerBlank(u64::from(segment.unit)),
+            fixed: Cents(i64::from(segment.fixed)),
+        }
     }
-}
-
-fn difference(a: u64, b: u64) -> i64
-    requires { (a ≤ 100) × (b ≤ 100) }
-{
-    a as i64 - b as i64
 }

@@ -1,19 +1,15 @@
 // The second clearing: all splits of a small book are listed, and of the cheapest the one with fewest blanks is kept, the first of these.
-//
-// A split of three quantities from 0 to 8 is a number below 729: the quantities are its digits to the base 9, the last bidder's the
-// last. So the numbers from the highest down give the splits in the order that decides between those with as many
-// blanks at the same cost: the one that gives the first bidder most comes first.
 use crate::small_books;
 use crate::small_books::{SmallBid, SmallBook, SmallSegment};
 
-// The price of what is not offered.
-pub const NONE: u64 = 1_000_000_000_000;
+// The quantity of each bidder, from 0 to 8.
+pub type Split = [u8; 3];
 
-// The cheapest split and its price, `NONE` where the order takes no split, and whether another one costs the same.
+// The cheapest split and its price, and whether another one costs the same.
 #[derive(Clone, Copy)]
 pub struct Cheapest {
-    pub total: u64,
-    pub split: u64,
+    pub total: i64,
+    pub split: Split,
     pub tie: bool,
 }
 
@@ -21,139 +17,107 @@ pub struct Cheapest {
 #[derive(Clone, Copy)]
 pub struct Offer {
     pub segment: u64,
-    pub price: u64,
-}
-
-// The quantity of the bidder with this index.
-pub fn quantity(split: u64, i: usize) -> u64 {
-    match i {
-        0 => split / 81,
-        1 => split / 9 % 9,
-        _ => split % 9,
-    }
+    pub price: i64,
 }
 
 // What all bidders sell.
-pub fn bought(split: u64) -> u64 {
-    split % 729 / 81 + split / 9 % 9 + split % 9
+pub fn bought(split: Split) -> u16 {
+    let [first, second, third] = split;
+    u16::from(first) + u16::from(second) + u16::from(third)
 }
 
-pub fn asked(bid: SmallBid, quantity: u64) -> Offer {
+pub fn asked(bid: &SmallBid, quantity: u8) -> Option<Offer> {
     if quantity == 0 {
-        return Offer {
+        return Some(Offer {
             segment: 0,
             price: 0,
-        };
+        });
     }
-    let first = bid.first;
-    if lies_on(first, quantity) {
-        return on_segment(1, first, bid.carriage, quantity);
-    }
-    let second = bid.second;
-    if 1 < bid.count && lies_on(second, quantity) {
-        return on_segment(2, second, bid.carriage, quantity);
-    }
-    let third = bid.third;
-    if 2 < bid.count && lies_on(third, quantity) {
-        return on_segment(3, third, bid.carriage, quantity);
-    }
-    Offer {
-        segment: 0,
-        price: NONE,
-    }
+    let segments = bid.listed();
+    let at = segments
+        .iter()
+        .position(|s| (s.start..=s.end).contains(&quantity))?;
+    Some(Offer {
+        segment: at as u64 + 1,
+        price: price_on(&segments[at], bid.carriage, quantity),
+    })
 }
 
-fn lies_on(s: SmallSegment, quantity: u64) -> bool {
-    if quantity < s.start {
-        return false;
-    }
-    quantity <= s.end
-}
-
-// What is off is at most the rest.
-fn on_segment(segment: u64, s: SmallSegment, carriage: u64, quantity: u64) -> Offer {
-    let goods = small_books::cost(s.unit, quantity % 9) + s.more % 3;
-    let rest = goods + small_books::cost(carriage, quantity % 9);
-    Offer {
-        segment,
-        price: rest.wrapping_sub(s.off),
-    }
+fn price_on(segment: &SmallSegment, carriage: u8, quantity: u8) -> i64 {
+    let goods = small_books::cost(segment.unit, quantity);
+    let carried = small_books::cost(carriage, quantity);
+    i64::from(goods) + i64::from(carried) + i64::from(segment.fixed)
 }
 
 // The price of a quantity of the bidder with this index. One who is struck or past the count has only quantity 0.
-fn price(book: SmallBook, struck: usize, split: u64, i: usize) -> u64 {
-    let quantity = quantity(split, i);
+fn price(book: &SmallBook, struck: Option<usize>, i: usize, quantity: u8) -> Option<i64> {
     if quantity == 0 {
-        return 0;
+        return Some(0);
     }
-    if i == struck {
-        return NONE;
+    if struck == Some(i) {
+        return None;
     }
-    if book.count <= i {
-        return NONE;
-    }
-    let bid = book.bids[i % 3];
-    asked(bid, quantity).price
+    let bid = book.listed().get(i)?;
+    asked(bid, quantity).map(|offer| offer.price)
 }
 
 // Whether a book's order takes so many blanks.
-fn taken(book: SmallBook, blanks: u64) -> bool {
-    if blanks < book.demand {
-        return false;
-    }
-    blanks - book.demand <= book.allowance
+fn takes(book: &SmallBook, blanks: u16) -> bool {
+    let demand = u16::from(book.demand);
+    (demand..=demand + u16::from(book.allowance)).contains(&blanks)
 }
 
-// What a split costs, at least `NONE` where it is not offered or the order does not take it.
-fn cost(book: SmallBook, struck: usize, split: u64) -> u64 {
-    if !taken(book, bought(split)) {
-        return NONE;
+// What a split costs, if it is offered and the order takes it.
+fn cost(book: &SmallBook, struck: Option<usize>, split: Split) -> Option<i64> {
+    if !takes(book, bought(split)) {
+        return None;
     }
-    let first = price(book, struck, split, 0);
-    let second = price(book, struck, split, 1);
-    let third = price(book, struck, split, 2);
-    first.wrapping_add(second).wrapping_add(third)
+    let mut total = 0i64;
+    for (i, quantity) in split.iter().enumerate() {
+        total = total.checked_add(price(book, struck, i, *quantity)?)?;
+    }
+    Some(total)
 }
 
-// The best so far, and a split that costs the same: it is better only if it has fewer blanks, since it is listed later.
-fn tied(best: Cheapest, split: u64) -> Cheapest {
-    let mut kept = best;
-    kept.tie = true;
-    if bought(split) < bought(best.split) {
-        kept.split = split;
-    }
-    kept
-}
-
-// The best so far, and a split that is listed later.
-fn compared(best: Cheapest, split: u64, total: u64) -> Cheapest {
-    if NONE <= total {
-        return best;
-    }
-    if best.total < total {
-        return best;
-    }
-    if best.total == total {
-        return tied(best, split);
-    }
-    Cheapest {
-        total,
-        split,
-        tie: false,
+// The best so far, and a split that is listed later: at the same cost it is better only if it has fewer blanks.
+fn better(best: Option<Cheapest>, split: Split, total: i64) -> Cheapest {
+    match best {
+        Some(best) if best.total < total => best,
+        Some(best) if best.total == total => Cheapest {
+            total,
+            split: if bought(split) < bought(best.split) {
+                split
+            } else {
+                best.split
+            },
+            tie: true,
+        },
+        _ => Cheapest {
+            total,
+            split,
+            tie: false,
+        },
     }
 }
 
-// The cheapest split without the bidder who is struck.
-pub fn clear(book: SmallBook, struck: usize) -> Cheapest {
-    let mut best = Cheapest {
-        total: NONE,
-        split: 0,
-        tie: false,
-    };
-    let mut split: u64 = 729;
-    while 0 < split {
-        split -= 1;
-        best = compared(best, split, cost(book, struck, split));
+// The splits in the order that decides between those with as many blanks at the same cost, from the last to the first:
+// the quantities are digits to the base 9, and the one that gives the first bidder most is the highest number.
+fn split(number: u16) -> Split {
+    [
+        (number / 81 % 9) as u8,
+        (number / 9 % 9) as u8,
+        (number % 9) as u8,
+    ]
+}
+
+// The cheapest split without the bidder who is struck, if the order takes one that is offered.
+pub fn clear(book: &SmallBook, struck: Option<usize>) -> Option<Cheapest> {
+    let mut best = None;
+    for number in (0..729).rev() {
+        let split = split(number);
+        if let Some(total) = cost(book, struck, split) {
+            best = Some(better(best, split, total));
+        }
     }
     best
 }
