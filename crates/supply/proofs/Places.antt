@@ -4,12 +4,13 @@ use native.Mathlib.Nat.{le_of_suc-le-suc, not-suc-le-zero}
 use native.Mathlib.Omega.{arith}
 use mathlib.Core.Bool.{Bool, true, false, false≢true}
 use mathlib.Core.List.{List, [], ◌∷◌}
-use mathlib.Core.Path.{◌≡◌, refl}
+use mathlib.Core.Path.{◌≡◌, refl, sym}
 use lib.ListN.{length, get_or}
+use Rattle.std.specs.Prelude.{Option, Some, None, unwrap_or}
 use Rattle.lists.proofs.Tests.{neither_left, neither_right}
 use Rattle.book.specs.declared.Segment.{Segment}
 use Rattle.supply.specs.Supply.{segment0, on, offers, number_from, segment_number}
-use Rattle.supply.specs.Places.{FirstOn}
+use Rattle.supply.specs.Places.{FirstOn, FoundAt}
 
 -- past a segment that the quantity is not on
 pub past_first : {s : Segment} {ss : List Segment} {r j : ℕ} → FirstOn (s ∷ ss) r (suc j) → FirstOn ss r j
@@ -58,3 +59,8 @@ number_none n (s ∷ ss) r e = rw (neither_left (on s r) (offers ss r) e) (numbe
 pub number_nowhere : (ss : List Segment) (r : ℕ) → offers ss r ≡ false → segment_number ss r ≡ 0
 unfolding segment_number
 number_nowhere ss r e = number_none 0 ss r e
+
+-- the number of the segment that was found, and 0 where there is none
+pub number_at : (ss : List Segment) (r : ℕ) (found : Option ℕ) → FoundAt ss r found → unwrap_or found 0 ≡ segment_number ss r
+number_at ss r (Some j) f = sym (number_found ss r j f)
+number_at ss r None e = sym (number_nowhere ss r e)

@@ -1,11 +1,10 @@
 -- A bid's supply function: document 000, section 3, document 01, section "Price and allocation", and document 02, change 2. It is all that
 -- clearing and splits see of a bid's curve and carriage.
-use Rattle.std.specs.Prelude.{ℕ, ◌+◌, Bool, false, cond, ◌&&◌, ◌||◌, List, [], ◌∷◌, map, ltb, ℤ, pos}
+use Rattle.std.specs.Prelude.{ℕ, ◌+◌, Bool, false, cond, ◌&&◌, ◌||◌, Option, Some, None, List, [], ◌∷◌, map, ltb, ℤ, pos}
+use Rattle.money.specs.declared.Cents.{Cents}
 use Rattle.book.specs.declared.Segment.{Segment}
 use Rattle.book.specs.Entries.{BidEntries}
 use Rattle.book.specs.Rules.{within, price_on}
-use Rattle.supply.specs.declared.Offer.{Offer}
-use Rattle.supply.specs.declared.Offer.TheVariants.{Price, NotOffered}
 
 -- segment 0 of every bidder is quantity 0 at price 0
 abbrev pub segment0 : Segment
@@ -38,8 +37,8 @@ price_at [] r = pos 0
 price_at (s ∷ ss) r = cond (on s r) (price_on s r) (price_at ss r)
 
 -- the price where the quantity is offered
-unfoldable pub offer_of : List Segment → ℕ → Offer
-offer_of ss r = cond (offers ss r) (Price (record { 0 = price_at ss r })) NotOffered
+unfoldable pub offer_of : List Segment → ℕ → Option Cents
+offer_of ss r = cond (offers ss r) (Some (record { 0 = price_at ss r })) None
 
 -- the number of the segment that r is on, the first of the list having the number n; where r is on none, which no award has, 0 stands
 unfoldable pub number_from : ℕ → List Segment → ℕ → ℕ

@@ -1,5 +1,7 @@
 // A bid's supply function: which quantities it offers, and at what price, carriage with it; and how many blanks an order takes
 // (order.rt).
+// That a bid is accepted stands in the contracts and is no invariant of `Bid`: the readers make the same record before the rules
+// are checked, and a second type for it would only be unwrapped here.
 #![tactic(auto)]
 
 ghost use Rattle.std.specs.Prelude.{◌≡◌, ◌+◌, ◌^◌, ◌<◌, length, get_or};
@@ -15,28 +17,24 @@ use book::{Bid, Segment};
 use money::{Blanks, Cents, CentsPerBlank};
 pub use order::{capped, meets, passes, reaches};
 
-// The price at which a bid offers a quantity, or that it does not offer it.
-#[derive(Clone, Copy)]
-pub enum Offer {
-    Price(Cents),
-    NotOffered,
-}
-
-// Where a quantity is in a supply function: on the segment with this number, or on none.
-#[derive(Clone, Copy)]
-enum Place {
-    On(usize),
-    Nowhere,
+// Segment 0 of every bidder: nothing, at price 0.
+pub fn segment_0() -> Segment
+    ensures { result ≡ segment0 }
+{
+    Segment {
+        start: Blanks(0),
+        end: Blanks(0),
+        unit: CentsPerBlank(0),
+        fixed: Cents(0),
+    }
 }
 
 // From the start to the end, both counted.
+#[tactic(auto, unfolding(crate::specs::Supply::on))]
 fn on_segment(s: Segment, quantity: Blanks) -> bool
     ensures { result ≡ on s quantity.0 }
 {
-    if quantity.0 < s.start.0 {
-        return false;
-    }
-    quantity.0 <= s.end.0
+    (s.start..=s.end).contains(&quantity)
 }
 
 // A segment as it is delivered: the carriage is in its unit price.
@@ -44,77 +42,54 @@ fn delivered(s: Segment, carriage: CentsPerBlank) -> Segment
     requires { s.unit.0 + carriage.0 < 2 ^ 64 }
     ensures { result ≡ delivered carriage.0 s }
 {
-    let start = s.start;
-    let end = s.end;
-    let own = s.unit;
-    let unit = money::with_carriage(own, carriage);
-    let fixed = s.fixed;
     Segment {
-        start,
-        end,
-        unit,
-        fixed,
+        unit: money::with_carriage(s.unit, carriage),
+        ..s
     }
 }
 
-// The segment of a bid's supply function with this number; segment 0 is nothing at price 0.
+// The segment of a bid's supply function with this number.
+#[tactic(auto, using(crate::proofs::Supply::number_held, crate::proofs::Supply::segment_none, crate::proofs::Supply::segment_own, crate::proofs::Accepted::carriage_fits))]
 pub fn segment_of(bid: Bid, number: usize) -> Segment
     requires { HasSegment bid number }
     ensures number_in_bounds { number < length (supply_of (bid_entries bid)) }
     ensures value { result ≡ get_or (supply_of (bid_entries bid)) number segment0 }
 {
     if number == 0 {
-        return Segment {
-            start: Blanks(0),
-            end: Blanks(0),
-            unit: CentsPerBlank(0),
-            fixed: Cents(0),
-        };
+        return segment_0();
     }
-    let own = bid.segments[number - 1];
-    let carriage = bid.carriage;
-    delivered(own, carriage)
+    delivered(bid.segments[number - 1], bid.carriage)
 }
 
-// The first segment of a bid's supply function, segment 0 with it, that a quantity is on.
-fn find(bid: Bid, quantity: Blanks) -> Place
+// The number of the first segment of a bid's supply function, segment 0 with it, that a quantity is on.
+fn find(bid: Bid, quantity: Blanks) -> Option<usize>
     requires { AcceptedBid (bid_entries bid) }
     ensures { FoundAt (supply_of (bid_entries bid)) quantity.0 result }
 {
-    let mut number: usize = 0;
-    while number <= bid.count {
-        let s = segment_of(bid, number);
-        if on_segment(s, quantity) {
-            return Place::On(number);
+    for number in 0..=bid.count {
+        if on_segment(segment_of(bid, number), quantity) {
+            return Some(number);
         }
-        number += 1;
     }
-    Place::Nowhere
+    None
 }
 
-// The price of a quantity by a bid of an accepted book.
-pub fn price_at(bid: Bid, quantity: Blanks) -> Offer
+// The price of a quantity by a bid of an accepted book, where the bid offers it.
+#[tactic(auto, using(crate::proofs::Offers::offer_nowhere, crate::proofs::Offers::offer_found))]
+pub fn price_at(bid: Bid, quantity: Blanks) -> Option<Cents>
     requires { AcceptedBid (bid_entries bid) }
     ensures { result ≡ offer_of (supply_of (bid_entries bid)) quantity.0 }
 {
-    let place = find(bid, quantity);
-    let Place::On(number) = place else {
-        return Offer::NotOffered;
-    };
+    let number = find(bid, quantity)?;
     let there = segment_of(bid, number);
-    let unit = there.unit;
-    let fixed = there.fixed;
-    Offer::Price(money::price(unit, quantity, fixed))
+    Some(money::price(there.unit, quantity, there.fixed))
 }
 
 // The number of the segment that a quantity is on.
+#[tactic(auto, using(crate::proofs::Places::number_at))]
 pub fn segment_number(bid: Bid, quantity: Blanks) -> u64
     requires { AcceptedBid (bid_entries bid) }
     ensures { result ≡ segment_number (supply_of (bid_entries bid)) quantity.0 }
 {
-    let place = find(bid, quantity);
-    let Place::On(number) = place else {
-        return 0;
-    };
-    number as u64
+    find(bid, quantity).unwrap_or(0) as u64
 }
