@@ -1,25 +1,25 @@
 -- The bids of a book that hints are asked for are accepted, and so their segments are sound. Assumes nothing.
 use Prim.Native.Nat.{ℕ, ◌<◌}
-use native.Mathlib.Omega.{arith}
+use mathlib.Core.List.{List}
 use mathlib.Core.Path.{◌≡◌}
-use lib.ListN.{length, get_or}
+use lib.ListN.{length, get_or, take}
+use Rattle.lists.proofs.All.{all_at, map_all}
 use Rattle.book.specs.declared.Segment.{Segment}
 use Rattle.book.specs.declared.Bid.{Bid}
 use Rattle.book.specs.declared.Book.{Book}
 use Rattle.book.specs.Entries.{bid_entries}
 use Rattle.book.specs.Accepted.{AcceptedBid}
 use Rattle.book.proofs.Records.{no_bid}
-use Rattle.book.proofs.Accepted.{accepted_at}
 use Rattle.supply.specs.Supply.{segment0, supply_of}
 use Rattle.supply.specs.Sound.{SoundSegment}
 use Rattle.supply.proofs.Accepted.{sound_segment_at}
 use Rattle.hints.specs.Asked.{HintedBid, HintedBookBy}
 
--- each bid that the record holds
-pub hinted_bid : (b : Book) (price : ℕ) → HintedBookBy b price → length b.bids ≡ 8 → (i : ℕ) → i < b.count
-    → HintedBid (get_or b.bids i no_bid) price
-hinted_bid b price asked held i h = record {
-  accepted = accepted_at b.bids b.count (omega (arith, asked.hinted.few)) asked.hinted.bids i h;
+-- each bid that the record lists
+pub hinted_bid : {b : Book} {price : ℕ} → HintedBookBy b price → (bids : List Bid) → bids ≡ take b.count b.bids → (i : ℕ) → i < length bids
+    → HintedBid (get_or bids i no_bid) price
+hinted_bid asked bids listed i h = record {
+  accepted = all_at (λ (bid : Bid). AcceptedBid (bid_entries bid)) no_bid bids (rw listed (map_all bid_entries AcceptedBid _ asked.hinted.bids)) i h;
   capped = asked.capped;
 }
 

@@ -2,65 +2,59 @@
 // that the prices are in range; good ones make it fast.
 #![tactic(auto)]
 
-ghost use Rattle.std.specs.Prelude.{◌≡◌, ◌≤◌, max};
+ghost use Rattle.std.specs.Prelude.{◌≡◌, ◌≤◌};
 ghost use Rattle.book.specs.Entries.{bid_entries};
 ghost use Rattle.book.specs.Accepted.{AcceptedBid};
 ghost use Rattle.charges.specs.Charge.{highest};
 ghost use Rattle.hints.specs.Asked.{HintedBid, HintedBook, HintedBookBy};
 
 use book::{Bid, Book, Order, Segment};
-use comparison::MaybeDivision;
+use comparison::PricedDivision;
 use money::{Blanks, CentsPerBlank};
 
-// The number of the segment that is charged least by a price, the later of equals.
+// The number of the segment that is charged least by a price, the later of equals; 0 where none starts within what the order takes.
 fn favourite(bid: Bid, order: Order, price: CentsPerBlank) -> usize
     requires { HintedBid bid price.0 }
     ensures { result ≤ bid.count }
 {
-    let mut least: u64 = 18446744073709551615;
-    let mut number: usize = 0;
-    let mut j = bid.count + 1;
-    while 0 < j {
-        j -= 1;
+    let mut best: Option<(u64, usize)> = None;
+    let last = bid.count;
+    for j in (0..=last).rev() {
         let s = supply::segment_of(bid, j);
-        let start = s.start;
-        if !supply::passes(order, start) {
+        if !supply::passes(order, s.start) {
             let here = charges::charge(s, order, price);
-            if here < least {
-                least = here;
-                number = j;
+            if !best.is_some_and(|(least, _)| least <= here) {
+                best = Some((here, j));
             }
         }
     }
-    number
+    best.map_or(0, |(_, number)| number)
 }
 
 // What a bidder would sell on a segment by a price.
-fn wanted(s: Segment, order: Order, price: CentsPerBlank) -> u64 {
-    if s.unit.0 <= price.0 {
-        return charges::smaller(s.end.0, order.demand.0);
+fn wanted(s: Segment, order: Order, price: CentsPerBlank) -> Blanks {
+    if s.unit <= price {
+        return s.end.min(order.demand);
     }
-    s.start.0
+    s.start
 }
 
-// What all would sell, each on the segment that it favours. No sum is so large that the remainders change it: they only show that it fits.
-fn sold(book: Book, price: CentsPerBlank) -> u64
+// What all would sell, each on the segment that it favours. No sum is so large that it is cut: that only shows that it fits.
+fn sold(book: Book, price: CentsPerBlank) -> Blanks
     requires { HintedBookBy book price.0 }
 {
-    let order = book.order;
     let mut sum: u64 = 0;
-    let mut i: usize = 0;
-    while i < book.count {
-        let bid = book.bids[i];
-        let s = supply::segment_of(bid, favourite(bid, order, price));
-        sum = sum % 4294967296 + wanted(s, order, price) % 4294967296;
-        i += 1;
+    for bid in book.listed() {
+        let number = favourite(*bid, book.order, price);
+        let s = supply::segment_of(*bid, number);
+        sum = sum.saturating_add(wanted(s, book.order, price).0);
     }
-    sum
+    Blanks(sum)
 }
 
 // The least price at which that reaches the demand, or 2^30 where none below does: the best of all prices to bound the whole search
-// with. It is pub for the search, as the other hints are.
+// with. It is pub for the search, as the other hints are. The loop counts no index: it halves a range, and only that it ends is
+// proved of it; `toodear::smallest`, which halves one too, proves what it finds and how many tests are made.
 pub fn balance(book: Book) -> CentsPerBlank
     requires { HintedBook book }
     ensures { result.0 ≤ highest }
@@ -69,7 +63,7 @@ pub fn balance(book: Book) -> CentsPerBlank
     let mut high: u64 = 1073741824;
     while low < high {
         let middle = low + (high - low) / 2;
-        if sold(book, CentsPerBlank(middle)) < book.order.demand.0 {
+        if sold(book, CentsPerBlank(middle)) < book.order.demand {
             low = middle + 1;
         } else {
             high = middle;
@@ -82,14 +76,10 @@ pub fn balance(book: Book) -> CentsPerBlank
 pub fn favourites(book: Book, price: CentsPerBlank) -> [usize; 8]
     requires { HintedBookBy book price.0 }
 {
-    let order = book.order;
-    let mut numbers: [usize; 8] = [0; 8];
-    let mut i: usize = 0;
-    while i < book.count {
-        let bid = book.bids[i];
-        let number = favourite(bid, order, price);
+    let mut numbers = [0; 8];
+    for (i, bid) in book.listed().iter().enumerate() {
+        let number = favourite(*bid, book.order, price);
         numbers[i] = number;
-        i += 1;
     }
     numbers
 }
@@ -99,42 +89,32 @@ fn sold_on(bid: Bid, quantity: Blanks) -> Segment
     requires { AcceptedBid (bid_entries bid) }
     ensures { result.unit.0 ≤ highest }
 {
-    let number = charges::smaller(supply::segment_number(bid, quantity), bid.count as u64);
+    let number = supply::segment_number(bid, quantity).min(bid.count as u64);
     supply::segment_of(bid, number as usize)
-}
-
-// The larger of two unit prices.
-fn dearer(a: CentsPerBlank, b: CentsPerBlank) -> CentsPerBlank
-    ensures { result.0 ≡ max a.0 b.0 }
-{
-    if a.0 < b.0 {
-        return b;
-    }
-    a
 }
 
 // A second price: in a first division the unit price of a bidder that stands strictly inside its segment, or else the largest unit price
 // that is paid; without one, three quarters of the first price.
-pub fn second_price(book: Book, division: MaybeDivision, price: CentsPerBlank) -> CentsPerBlank
+pub fn second_price(
+    book: Book,
+    division: Option<PricedDivision>,
+    price: CentsPerBlank,
+) -> CentsPerBlank
     requires { HintedBookBy book price.0 }
     ensures { result.0 ≤ highest }
 {
-    if !division.found {
+    let Some(division) = division else {
         let lower = price.0 - price.0 / 4;
         return CentsPerBlank(lower);
-    }
+    };
     let mut paid = CentsPerBlank(0);
-    let mut i: usize = 0;
-    while i < book.count {
-        let bid = book.bids[i];
+    for (i, bid) in book.listed().iter().enumerate() {
         let quantity = division.quantities[i];
-        let s = sold_on(bid, quantity);
-        let unit = s.unit;
-        if s.start.0 < quantity.0 && quantity.0 < s.end.0 {
-            return unit;
+        let s = sold_on(*bid, quantity);
+        if s.start < quantity && quantity < s.end {
+            return s.unit;
         }
-        paid = dearer(paid, unit);
-        i += 1;
+        paid = paid.max(s.unit);
     }
     paid
 }

@@ -1,4 +1,4 @@
--- The number kept is 0 or that of a segment passed; each segment passed is one of the bid.
+-- Each segment passed is one of the bid.
 use Rattle.hints.proofs.Hinted.{hinted_segment}
 use Rattle.hints.proofs.favourite.Goals as goal
 

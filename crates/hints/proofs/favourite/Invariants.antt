@@ -1,8 +1,6 @@
-use Rattle.std.proofs.Common.{◌+◌, ◌≤◌}
+use Rattle.std.proofs.Common.{◌≤◌, MatchOption}
 use Rattle.hints.proofs.favourite.Given as goal
 
+-- a number kept is one of the bid
 abbrev pub invariant-loop-j : goal.invariant-loop-j
-invariant-loop-j l = record { within : l.j ≤ l.bid.count + 1; held : l.number ≤ l.bid.count }
-
-abbrev pub decreases-loop-j : goal.decreases-loop-j
-decreases-loop-j l = l.j
+invariant-loop-j l = MatchOption l.best (Unit {0}) (λ kept. kept.1 ≤ l.bid.count)
