@@ -1,27 +1,27 @@
 -- An answer as one value, the record or the refusal: what a parsed text gives, and that the answer follows from it, since beside a refusal
 -- stand zeros. Assumes nothing.
 use Prim.Native.Nat.{ℕ}
+use mathlib.Core.Bool.{Bool, true, false}
 use mathlib.Core.List.{List}
 use mathlib.Core.Path.{◌≡◌, refl, sym, ap, ap₂, ◌∙◌}
-use Rattle.std.specs.Prelude.{Result, Ok, Err}
-use Rattle.refusal.specs.Checks.{when_accepted}
+use Rattle.std.specs.Prelude.{Result, Ok, Err, IsErrAnd}
+use Rattle.std.proofs.lemmas.Result.{err_from_is_err_and}
+use Rattle.refusal.specs.Checks.{unless, when_accepted}
 use Rattle.refusal.specs.declared.Refusal.{Refusal}
+use Rattle.refusal.specs.declared.Rule.{Rule}
 use Rattle.refusal.specs.declared.Rule.TheVariants.{TextLength, Shape}
 use Rattle.refusal.specs.Verdict.{Verdict}
 use Rattle.refusal.specs.Verdict.{Accepted, Refused}
+use Rattle.refusal.proofs.Firsts.{refused_not}
 use Rattle.forms.specs.Shape.{of_shape, not_of_shape, answer}
 use Rattle.textreading.specs.Outcome.{or_refusal}
-use Rattle.textreading.proofs.Kind.{Kind}
+use Rattle.textreading.proofs.Kind.{Kind, refused_by}
 use Rattle.textreading.proofs.Told.{Answered, by_length, by_reading, read_answered}
 
 -- what stands beside a refusal is not told
 not_told : {R : Type 0} (v : Verdict) (r zeros : R) → or_refusal v (when_accepted v r zeros) ≡ or_refusal v r
 not_told (Ok _) r zeros = refl
 not_told (Err refusal) r zeros = refl
-
--- a refusal is passed on
-pub passed_on : {R : Type 0} (v : Verdict) (r : R) (refusal : Refusal) → v ≡ Err refusal → Err refusal ≡ or_refusal v r
-passed_on v r refusal e = rw e refl
 
 module _ {A R C : Type 0} (k : Kind A R C) where
   abbrev pub outcome : C → Result R Refusal
@@ -33,20 +33,42 @@ module _ {A R C : Type 0} (k : Kind A R C) where
       ap₂ or_refusal (k.verdict_in_lem v z) (k.record_in_lem v z) ∙ not_told v r k.zeros
 
   module _ (t : List ℕ) where
-    -- the text was refused before the rules for records were looked at
-    pub text_refused : (v : Verdict) (refusal : Refusal) → v ≡ Err refusal → k.answering v k.zeros ≡ k.read_of t → Err refusal ≡ outcome (k.read_of t)
-    text_refused v refusal e q =
-        passed_on v k.zeros refusal e
+    -- A `?` gives on the refusal that it met, here one before the rules for records were looked at;
+    pub text_refused : (rule : Rule) (place : ℕ) → refused_by k rule place ≡ k.read_of t → (refusal : Refusal) → refusal ≡ record { rule = rule; place = place }
+        → (out : Result R Refusal) → IsErrAnd out (λ e. e ≡ refusal) → out ≡ outcome (k.read_of t)
+    text_refused rule place q refusal e out same =
+        let given = err_from_is_err_and out same in
+        let v = Refused rule place in
+        given.1
+        ∙ ap (λ (x : Refusal). Err x) (given.2 ∙ e)
         ∙ sym (ap₂ or_refusal (k.verdict_in_lem v k.zeros) (k.record_in_lem v k.zeros))
         ∙ ap outcome q
 
-    -- its entries were parsed, and their record is looked at by the rules
-    pub text_checked : (a : A) (r : R) (v : Verdict) → r ≡ k.record_of a → v ≡ k.verdict_of (k.entries_of r) → k.answer_of a ≡ k.read_of t
-        → or_refusal v r ≡ outcome (k.read_of t)
-    text_checked a r v same checked q =
-        ap₂ or_refusal (checked ∙ ap (λ (x : R). k.verdict_of (k.entries_of x)) same) same
-        ∙ sym (outcome_lem (k.verdict_of (k.entries_of (k.record_of a))) (k.record_of a))
-        ∙ ap outcome (sym (k.answer_is a) ∙ q)
+    -- by a test;
+    pub test_refused : (test : Bool) (rule : Rule) (place : ℕ) → (test ≡ false → refused_by k rule place ≡ k.read_of t) → (refusal : Refusal)
+        → Err refusal ≡ unless test rule place
+        → (out : Result R Refusal) → IsErrAnd out (λ e. e ≡ refusal) → out ≡ outcome (k.read_of t)
+    test_refused true rule place q refusal e = refused_not e
+    test_refused false rule place q refusal e =
+        let same : refusal ≡ record { rule = rule; place = place } = cc in text_refused rule place (q refl) refusal same
+
+    -- and here one by the rules for records.
+    module _ (a : A) (r : R) (same : r ≡ k.record_of a) (q : k.answer_of a ≡ k.read_of t) where
+      checked : or_refusal (k.verdict_of (k.entries_of r)) r ≡ outcome (k.read_of t)
+      checked =
+          ap (λ (x : R). or_refusal (k.verdict_of (k.entries_of x)) x) same
+          ∙ sym (outcome_lem (k.verdict_of (k.entries_of (k.record_of a))) (k.record_of a))
+          ∙ ap outcome (sym (k.answer_is a) ∙ q)
+
+      pub rules_refused : (refusal : Refusal) → Err refusal ≡ k.verdict_of (k.entries_of r) → (out : Result R Refusal) → IsErrAnd out (λ e. e ≡ refusal)
+          → out ≡ outcome (k.read_of t)
+      rules_refused refusal e out same =
+          let given = err_from_is_err_and out same in
+          given.1 ∙ ap (λ (x : Refusal). Err x) given.2 ∙ ap (λ (v : Verdict). or_refusal v r) e ∙ checked
+
+      -- the rules accept the record
+      pub rules_passed : Accepted ≡ k.verdict_of (k.entries_of r) → Ok r ≡ outcome (k.read_of t)
+      rules_passed e = ap (λ (v : Verdict). or_refusal v r) e ∙ checked
 
     -- every answer is a verdict, and a record or zeros
     answers : (v : Verdict) × (r : R) × (k.read_of t ≡ k.answering v (when_accepted v r k.zeros))
