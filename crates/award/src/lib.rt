@@ -1,20 +1,21 @@
 // An award as a record: what each bidder sells, at what price, and what the mint samples.
 #![tactic(auto)]
 
-ghost use Rattle.std.specs.Prelude.{◌≡◌};
+ghost use Rattle.std.specs.Prelude.{◌≡◌, take};
 ghost use Rattle.book.specs.Entries.{bid_entries};
 ghost use Rattle.book.specs.Accepted.{AcceptedBid};
 ghost use Rattle.supply.specs.Supply.{supply_of, price_at};
 ghost use Rattle.sampling.specs.Entries.{table_entries};
-ghost use Rattle.award.specs.Award.{no_row, no_award, row_of};
+ghost use Rattle.award.specs.Award.{total_in, no_row, no_award, row_of};
 
 use book::Bid;
 use money::{Blanks, Cents};
 use sampling::Table;
 use supply::Offer;
 
-// A total without a bidder: an amount, or `none` where the bids left have no division.
-#[derive(Clone, Copy)]
+// A total without a bidder: an amount, or `none` where the bids left have no division. It is no Option<Cents>, since document 01 names
+// its form: an enum Amount or Nothing is a field of the row.
+#[derive(Clone, Copy, PartialEq, Eq)]
 pub enum Total {
     Amount(Cents),
     Nothing,
@@ -22,7 +23,7 @@ pub enum Total {
 
 // What a bidder sells: the number of its segment (0 for nothing), the quantity and its price, how many
 // blanks are sampled, and the total that clearing would give if this bidder alone had not bid.
-#[derive(Clone, Copy)]
+#[derive(Clone, Copy, PartialEq, Eq)]
 pub struct Row {
     pub bidder: u64,
     pub segment: u64,
@@ -33,13 +34,33 @@ pub struct Row {
 }
 
 // `bought` is what all bidders sell. The first `count` rows are those of the bids, in book order; the others are zeros and `Nothing`.
-#[derive(Clone, Copy)]
+#[derive(Clone, Copy, PartialEq, Eq)]
 pub struct Award {
     pub demand: Blanks,
     pub bought: Blanks,
     pub total: Cents,
     pub count: usize,
     pub rows: [Row; 8],
+}
+
+impl From<Option<Cents>> for Total {
+    ghost from_gives = { λ cost total. total ≡ total_in cost };
+
+    fn from(cost: Option<Cents>) -> Total {
+        match cost {
+            Some(cost) => Total::Amount(cost),
+            None => Total::Nothing,
+        }
+    }
+}
+
+impl Award {
+    // The rows that the record counts and holds.
+    pub fn listed(&self) -> &[Row]
+        ensures { result.now ≡ take self.now.count self.now.rows }
+    {
+        &self.rows[..self.count.min(8)]
+    }
 }
 
 // Zeros and `Nothing`.
@@ -60,13 +81,12 @@ pub fn no_row() -> Row
 pub fn no_award() -> Award
     ensures { result ≡ no_award }
 {
-    let row = no_row();
     Award {
         demand: Blanks(0),
         bought: Blanks(0),
         total: Cents(0),
         count: 0,
-        rows: [row; 8],
+        rows: [no_row(); 8],
     }
 }
 
@@ -88,15 +108,12 @@ pub fn row_of(table: Table, bid: Bid, quantity: Blanks, without: Total) -> Row
     requires { AcceptedBid (bid_entries bid) }
     ensures { result ≡ row_of (table_entries table) (bid_entries bid) quantity.0 without }
 {
-    let segment = supply::segment_number(bid, quantity);
-    let price = price_of(bid, quantity);
-    let sample = sampling::sample_by_table(table, quantity);
     Row {
         bidder: bid.bidder,
-        segment,
+        segment: supply::segment_number(bid, quantity),
         quantity,
-        price,
-        sample,
+        price: price_of(bid, quantity),
+        sample: sampling::sample_by_table(table, quantity),
         without,
     }
 }

@@ -1,18 +1,18 @@
 // What is known of a book before it is cleared (document 02, change 6).
 #![tactic(auto)]
 
-ghost use Rattle.std.specs.Prelude.{◌≡◌, ◌≤◌};
+ghost use Rattle.std.specs.Prelude.{◌≡◌, ◌≤◌, Err};
 ghost use Rattle.refusal.specs.Verdict.{Accepted};
 ghost use Rattle.book.specs.Entries.{book_entries};
 ghost use Rattle.book.specs.Rules.{book_verdict};
-ghost use Rattle.sizes.specs.Sizes.{choices_of, sheet_limit, refused_sizes, sizes_of};
+ghost use Rattle.sizes.specs.Sizes.{choices_of, sheet_limit, figures_of, refused_sizes, sizes_of};
 
 use book::Book;
-use refusal::Verdict;
+use refusal::{Refusal, Verdict};
 
 // How many bytes the book's text has, how many choices of a segment for each bidder there are, and how many bytes its sheet
 // has at most; zeros beside a refusal.
-#[derive(Clone, Copy)]
+#[derive(Clone, Copy, PartialEq, Eq)]
 pub struct BookSizes {
     pub verdict: Verdict,
     pub bytes: u64,
@@ -20,32 +20,41 @@ pub struct BookSizes {
     pub sheet: u64,
 }
 
+// Zeros beside a refusal; for `bookanswers` too.
+impl From<Refusal> for BookSizes {
+    ghost from_gives = { λ refusal sizes. sizes ≡ refused_sizes (Err refusal) };
+
+    fn from(refusal: Refusal) -> BookSizes {
+        BookSizes {
+            verdict: Err(refusal),
+            bytes: 0,
+            choices: 0,
+            sheet: 0,
+        }
+    }
+}
+
 // The figures of any record, whether or not its demand can be covered.
 #[tactic(auto, unfolding(crate::specs::Sizes::sizes_of))]
 pub fn sizes(book: Book) -> BookSizes
     ensures { result ≡ sizes_of (book_entries book) }
 {
-    let verdict = bookrules::check(book);
-    if let Err(_) = verdict {
-        return refused(verdict);
-    }
-    BookSizes {
-        verdict,
-        bytes: bookwriter::measure(book) as u64,
-        choices: choices(book),
-        sheet: sheet_limit(book.count),
+    match bookrules::check(book) {
+        Ok(()) => figures(book),
+        Err(refusal) => refusal.into(),
     }
 }
 
-// Zeros beside a refusal; for `bookanswers` too.
-pub fn refused(verdict: Verdict) -> BookSizes
-    ensures { result ≡ refused_sizes verdict }
+// The figures of an accepted book.
+fn figures(book: Book) -> BookSizes
+    requires { book_verdict (book_entries book) ≡ Accepted }
+    ensures { result ≡ figures_of (book_entries book) }
 {
     BookSizes {
-        verdict,
-        bytes: 0,
-        choices: 0,
-        sheet: 0,
+        verdict: Ok(()),
+        bytes: bookwriter::measure(book) as u64,
+        choices: choices(book),
+        sheet: sheet_limit(book.count),
     }
 }
 
@@ -55,11 +64,8 @@ fn choices(book: Book) -> u64
     ensures { result ≡ choices_of (book_entries book).bids }
 {
     let mut choices: u64 = 1;
-    let mut i: usize = 0;
-    while i < book.count {
-        let b = book.bids[i];
-        choices *= (b.count as u64) + 1;
-        i += 1;
+    for bid in book.listed() {
+        choices *= bid.count as u64 + 1;
     }
     choices
 }

@@ -1,14 +1,9 @@
-use Rattle.std.proofs.Common.{◌-◌, ◌≡◌, ◌≤◌, ◌*◌, ◌^◌}
-use Rattle.book.specs.Entries.{book_entries}
-use Rattle.book.proofs.Bids.{entries_from}
+-- The bids passed are multiplied, and the product is at most 7 to the power of their number, since each has at most six segments.
+use Rattle.std.proofs.Common.{◌≡◌, ◌≤◌, ◌*◌, ◌^◌, map, drop}
+use Rattle.book.specs.Entries.{bid_entries}
 use Rattle.sizes.specs.Sizes.{choices_of}
 use Rattle.sizes.proofs.choices.Given as goal
 
-abbrev pub invariant-loop-i : goal.invariant-loop-i
-invariant-loop-i l =
-    (l.i ≤ l.book.count)
-    × (choices_of (book_entries l.book).bids ≡ l.choices * choices_of (entries_from l.i l.book.count l.book.bids))
-    × (l.choices ≤ 7 ^ l.i)
-
-abbrev pub decreases-loop-i : goal.decreases-loop-i
-decreases-loop-i l = l.book.count - l.i
+abbrev pub invariant-loop-bid : goal.invariant-loop-bid
+invariant-loop-bid l =
+    (choices_of (map bid_entries l.bid-items) ≡ l.choices * choices_of (map bid_entries (drop l.bid-index l.bid-items))) × (l.choices ≤ 7 ^ l.bid-index)
