@@ -1,1 +1,2 @@
+pub mod Multiplied
 pub mod Answers

@@ -1,12 +1,13 @@
 -- Document 02, change 6: three figures that are known of a book before it is cleared.
-use Rattle.std.specs.Prelude.{ℕ, ◌+◌, ◌*◌, List, [], ◌∷◌, length}
+use Rattle.std.specs.Prelude.{ℕ, ◌+◌, ◌*◌, List, [], ◌∷◌, length, Result, Ok, Err}
 use Rattle.refusal.specs.Checks.{when_accepted}
-use Rattle.refusal.specs.Verdict.{Verdict}
-use Rattle.refusal.specs.Verdict.{Accepted}
+use Rattle.refusal.specs.declared.Refusal.{Refusal}
+use Rattle.refusal.specs.Verdict.{Verdict, Accepted}
 use Rattle.book.specs.Entries.{BidEntries, BookEntries}
 use Rattle.book.specs.Rules.{book_verdict}
 use Rattle.booktext.specs.BookText.{book_text}
 use Rattle.sizes.specs.declared.BookSizes.{BookSizes}
+use Rattle.sizes.specs.declared.Figures.{Figures}
 
 -- the number of segment choices: the product over the bids of segments + 1, since a bidder can also be left on segment 0
 unfoldable pub choices_of : List BidEntries → ℕ
@@ -29,6 +30,11 @@ figures_of b = record {
 -- zeros beside a refusal
 abbrev pub refused_sizes : Verdict → BookSizes
 refused_sizes verdict = record { verdict = verdict; bytes = 0; choices = 0; sheet = 0 }
+
+-- the figures, or the refusal with zeros
+abbrev pub sizes_told : Result Figures Refusal → BookSizes
+sizes_told (Ok figures) = record { verdict = Accepted; bytes = figures.bytes; choices = figures.choices; sheet = figures.sheet }
+sizes_told (Err refusal) = refused_sizes (Err refusal)
 
 -- what every record gets
 unfoldable pub sizes_of : BookEntries → BookSizes

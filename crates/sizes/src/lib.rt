@@ -1,11 +1,11 @@
 // What is known of a book before it is cleared (document 02, change 6).
 #![tactic(auto)]
 
-ghost use Rattle.std.specs.Prelude.{◌≡◌, ◌≤◌, Err};
+ghost use Rattle.std.specs.Prelude.{◌≡◌, ◌≤◌};
 ghost use Rattle.refusal.specs.Verdict.{Accepted};
 ghost use Rattle.book.specs.Entries.{book_entries};
 ghost use Rattle.book.specs.Rules.{book_verdict};
-ghost use Rattle.sizes.specs.Sizes.{choices_of, sheet_limit, figures_of, refused_sizes, sizes_of};
+ghost use Rattle.sizes.specs.Sizes.{choices_of, sheet_limit, sizes_told, sizes_of};
 
 use book::Book;
 use refusal::{Refusal, Verdict};
@@ -20,42 +20,53 @@ pub struct BookSizes {
     pub sheet: u64,
 }
 
-// Zeros beside a refusal; for `bookanswers` too.
-impl From<Refusal> for BookSizes {
-    ghost from_gives = { λ refusal sizes. sizes ≡ refused_sizes (Err refusal) };
+// The three figures of an accepted book.
+#[derive(Clone, Copy, PartialEq, Eq)]
+pub struct Figures {
+    pub bytes: u64,
+    pub choices: u64,
+    pub sheet: u64,
+}
 
-    fn from(refusal: Refusal) -> BookSizes {
-        BookSizes {
-            verdict: Err(refusal),
-            bytes: 0,
-            choices: 0,
-            sheet: 0,
+// For `bookanswers` too.
+impl From<Result<Figures, Refusal>> for BookSizes {
+    ghost from_gives = { λ figures sizes. sizes ≡ sizes_told figures };
+
+    fn from(figures: Result<Figures, Refusal>) -> BookSizes {
+        match figures {
+            Ok(figures) => BookSizes {
+                verdict: Ok(()),
+                bytes: figures.bytes,
+                choices: figures.choices,
+                sheet: figures.sheet,
+            },
+            Err(refusal) => BookSizes {
+                verdict: Err(refusal),
+                bytes: 0,
+                choices: 0,
+                sheet: 0,
+            },
         }
     }
 }
 
 // The figures of any record, whether or not its demand can be covered.
-#[tactic(auto, unfolding(crate::specs::Sizes::sizes_of))]
 pub fn sizes(book: Book) -> BookSizes
     ensures { result ≡ sizes_of (book_entries book) }
 {
-    match bookrules::check(book) {
-        Ok(()) => figures(book),
-        Err(refusal) => refusal.into(),
-    }
+    figures_of(book).into()
 }
 
-// The figures of an accepted book.
-fn figures(book: Book) -> BookSizes
-    requires { book_verdict (book_entries book) ≡ Accepted }
-    ensures { result ≡ figures_of (book_entries book) }
+#[tactic(auto, using(crate::proofs::Answers::sizes_accepted), unfolding(crate::specs::Sizes::sizes_of))]
+fn figures_of(book: Book) -> Result<Figures, Refusal>
+    ensures { sizes_told result ≡ sizes_of (book_entries book) }
 {
-    BookSizes {
-        verdict: Ok(()),
+    bookrules::check(book)?;
+    Ok(Figures {
         bytes: bookwriter::measure(book) as u64,
         choices: choices(book),
         sheet: sheet_limit(book.count),
-    }
+    })
 }
 
 // How many choices of a segment for each bidder an accepted book has.
