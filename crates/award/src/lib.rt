@@ -11,7 +11,6 @@ ghost use Rattle.award.specs.Award.{total_in, no_row, no_award, row_of};
 use book::Bid;
 use money::{Blanks, Cents};
 use sampling::Table;
-use supply::Offer;
 
 // A total without a bidder: an amount, or `none` where the bids left have no division. It is no Option<Cents>, since document 01 names
 // its form: an enum Amount or Nothing is a field of the row.
@@ -91,15 +90,12 @@ pub fn no_award() -> Award
 }
 
 // The price of a quantity that the bid offers; 0 where it does not offer it, which no award has.
+#[tactic(auto, using(crate::proofs::Prices::price_or_zero))]
 fn price_of(bid: Bid, quantity: Blanks) -> Cents
     requires { AcceptedBid (bid_entries bid) }
     ensures { result.0 ≡ price_at (supply_of (bid_entries bid)) quantity.0 }
 {
-    let offer = supply::price_at(bid, quantity);
-    let Offer::Price(price) = offer else {
-        return Cents(0);
-    };
-    price
+    supply::price_at(bid, quantity).unwrap_or(Cents(0))
 }
 
 // The row of a bid of an accepted book, sampled by a table.
