@@ -1,11 +1,9 @@
 -- For the contracts of this crate, of `meritorder` and of `search`: what the record of a choice holds.
-use Rattle.std.specs.Prelude.{ℕ, ◌≤◌, ◌<◌, List, ◌≡◌, get_or}
-use Rattle.lists.specs.All.{All}
+use Rattle.std.specs.Prelude.{ℕ, ◌<◌, List, ◌≡◌, get_or}
 use Rattle.lists.specs.Latest.{latest}
 use Rattle.book.specs.declared.Segment.{Segment}
 use Rattle.supply.specs.Supply.{segment0}
 use Rattle.supply.specs.Sound.{SoundSegment}
-use Rattle.choices.specs.Choice.{starts, ends}
 use Rattle.choicerecord.specs.declared.Choice.{Choice}
 
 -- the segment of bidder i; segment 0 stands past the end of the record
@@ -20,30 +18,17 @@ first_segments c n = latest segment0 c.segments n
 abbrev pub chosen : Choice → List Segment
 chosen c = first_segments c c.count
 
--- change 4 of document 02: the carried sums equal those added up afresh over the bidders chosen so far
-pub record Carried (c : Choice) : Type 0 where
-  pub starts : c.starts.0 ≡ starts (chosen c)
-  pub ends : c.ends.0 ≡ ends (chosen c)
-
--- what is kept of a choice at each point of the search: at most eight bidders, segments as those of accepted bids are, and the sums
-pub record Sound (c : Choice) : Type 0 where
-  pub few : c.count ≤ 8
-  pub each : All SoundSegment (chosen c)
-  pub carried : Carried c
-
 -- every bidder has segment 0
 pub record SellsNothing (c : Choice) : Type 0 where
   pub each : (i : ℕ) → i < c.count → segment_at c i ≡ segment0
 
 -- what `choose` asks: a choice of fewer than eight bidders, and a segment
 pub record Choosable (c : Choice) (s : Segment) : Type 0 where
-  pub choice : Sound c
   pub segment : SoundSegment s
   pub not_full : c.count < 8
 
 -- what `exchange` asks: a choice for bidder i among others, and a segment
 pub record Exchangeable (c : Choice) (i : ℕ) (s : Segment) : Type 0 where
-  pub choice : Sound c
   pub segment : SoundSegment s
   pub bidder : i < c.count
 
