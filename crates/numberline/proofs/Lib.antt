@@ -1,1 +1,2 @@
 mod Several
+mod Framed

@@ -47,3 +47,6 @@ module _ {A : Type 0} (p : Form A) (from next : Reader) (stop : Stop) where
 
   pub scans_stop_as : {R : Type 0} (keep : A → R) (r : Result R Stop) → IsErrAnd r (λ e. e ≡ stop) → Scans p from (Err stop) next → ScansAs p keep from r next
   scans_stop_as keep r same s = let given = err_from_is_err_and r same in rw (given.1, given.2) s
+
+  pub scans_stop_ok : {B : Type 0} (f : B → A) (r : Result B Stop) → IsErrAnd r (λ e. e ≡ stop) → Scans p from (Err stop) next → Scans p from (ok_as f r) next
+  scans_stop_ok f r same s = let given = err_from_is_err_and r same in rw (given.1, given.2) s

@@ -1,16 +1,29 @@
--- A word, the numbers and a word, read one after the other (`reads_framed`). Assumes nothing.
-use Rattle.std.proofs.Common.{rules}
-use Rattle.forms.specs.Spaced.{numbers_in}
-use Rattle.forms.proofs.Framed.{reads_framed}
+-- A word, the numbers and a word, read one after the other (`Framed`). Assumes nothing.
+use Rattle.std.proofs.Common.{◌-◌}
+use Rattle.forms.specs.Combined.{framed}
+use Rattle.forms.specs.Spaced.{numbers, numbers_in}
 use Rattle.forms.proofs.Spaced.{numbers_laws}
-use Rattle.numberline.specs.ScansLine.{values_of}
+use Rattle.scanner.proofs.Scanned.{scans_stop_ok}
+use Rattle.numberline.proofs.Framed.{between_stops, close_stops}
 use Rattle.numberline.proofs.line.Goals as goal
 
-pub returns-clause-scans_line : goal.returns-clause-scans_line
-returns-clause-scans_line c =
+pub returns-in_err-values : goal.returns-in_err-values
+returns-in_err-values g c =
     let a = c.args in
-    let w = c.word-begun in
-    let n = c.spaced-parsed in
-    reads_framed a.start.now (numbers_laws a.further) a.close.now a.text.now a.from.at a.from.stopped
-    w.result.at w.result.stopped (numbers_in a.further (values_of n.result)) n.result.next.at n.result.next.stopped
-    c.word-next.result.at c.word-next.result.stopped w.ensures.scans n.ensures.scans (search rules)
+    let n = g.row.N - 1 in
+    let next = c.spaced.new.reader in
+    let stop = c.in_err-values.field-0.0 in
+    scans_stop_ok (framed a.start.now (numbers n) a.close.now) a.reader.now next stop (numbers_in n)
+    c.from_residual-in_err-values.result c.from_residual-in_err-values.ensures.1
+    (between_stops a.start.now (numbers_laws n) a.close.now a.reader.now c.word.new.self c.in_ok-word.ensures stop next c.in_err-values.ensures)
+
+pub returns-in_err-word-2 : goal.returns-in_err-word-2
+returns-in_err-word-2 g c =
+    let a = c.args in
+    let n = g.row.N - 1 in
+    let next = c.word-2.new.self in
+    let stop = c.in_err-word-2.field-0.0 in
+    scans_stop_ok (framed a.start.now (numbers n) a.close.now) a.reader.now next stop (numbers_in n)
+    c.from_residual-in_err-word-2.result c.from_residual-in_err-word-2.ensures.1
+    (close_stops a.start.now (numbers_laws n) a.close.now a.reader.now c.word.new.self c.in_ok-word.ensures
+    (numbers_in n c.in_ok-values.values) c.spaced.new.reader c.in_ok-values.ensures stop next c.in_err-word-2.ensures)
