@@ -4,11 +4,23 @@
 ghost use Rattle.std.specs.Prelude.{◌≡◌, ◌≤◌, length, drop};
 ghost use Rattle.forms.specs.Tests.{starts_with};
 ghost use Rattle.forms.specs.Word as Word;
+ghost use Rattle.refusal.specs.declared.Rule.TheVariants.{Shape};
+
+use refusal::{Refusal, Rule};
 
 // Where parsing stopped: the place of the first byte from which on no text of the form goes on as this one does.
 #[derive(Clone, Copy, PartialEq, Eq)]
 pub struct Stop {
     pub at: usize,
+}
+
+// A text in which parsing stopped is not of the shape.
+impl From<Stop> for Refusal {
+    ghost from_gives = { λ stop refusal. refusal ≡ record { rule = Shape; place = stop.at } };
+
+    fn from(stop: Stop) -> Refusal {
+        Rule::Shape.at(stop.at as u64)
+    }
 }
 
 // The text that is being parsed, and the place of its next byte. After a Stop it is not parsed on.
