@@ -1,116 +1,85 @@
-// The lines of a book as data, and the book put into an output.
+// The lines of a book as data, and the book put into an output. A place is bounded so that no sum wraps.
 ghost use Rattle.std.specs.Prelude.{◌≡◌, ◌+◌, ◌≤◌};
 ghost use Rattle.lists.specs.Joined.{joined};
 ghost use Rattle.book.specs.Entries.{bid_entries, book_entries};
-ghost use Rattle.book.specs.Rules.{book_verdict};
 ghost use Rattle.booktext.specs.BookText.{segment_text, bid_head, bid_text, book_head, book_text};
-ghost use Rattle.printer.specs.Written.{Put};
+ghost use Rattle.printer.specs.Puts.{Puts};
 ghost use Rattle.lines.specs.Line.{part_text};
-ghost use Rattle.refusal.specs.Verdict.{Accepted};
-ghost use Rattle.bookwriter.specs.Asked.{BidAt, BidsAt};
 
 use book::{Bid, Book, Segment};
 use lines::Part;
+use printer::Output;
 use words::Word;
 
 #[tactic(auto, using(lines::proofs::Together::together), unfolding(booktext::specs::BookText::segment_text))]
-fn segment_line(s: Segment) -> [Part; 8]
-    ensures { joined part_text result ≡ segment_text s }
+fn segment_line(s: &Segment) -> [Part; 5]
+    ensures { joined part_text result ≡ segment_text s.now }
 {
-    let fixed = s.fixed;
     [
         Part::Number(Word::Seg, s.start.0),
         Part::Number(Word::Space, s.end.0),
         Part::Number(Word::Space, s.unit.0),
-        Part::Price(Word::Space, fixed),
+        Part::Price(Word::Space, s.fixed),
         Part::Fixed(Word::Close),
-        Part::Nothing,
-        Part::Nothing,
-        Part::Nothing,
     ]
 }
 
-fn put_segments(out: &mut [u8], at: usize, bid: Bid) -> usize
-    requires { BidAt 1000000 bid at }
-    ensures put { Put out.old at (joined segment_text (bid_entries bid).segments) out.new result }
-    ensures upper_bound { result ≤ at + 24000 }
+fn put_segments(out: &mut Output<'_>, bid: Bid)
+    requires { out.old.at ≤ 1000000 }
+    ensures puts { Puts out.old (joined segment_text (bid_entries bid).segments) out.new }
+    ensures upper_bound { out.new.at ≤ out.old.at + 24000 }
 {
-    let mut next = at;
-    let mut i: usize = 0;
-    while i < bid.count {
-        let s = bid.segments[i];
-        let line = segment_line(s);
-        next = lines::put(out, next, line);
-        i += 1;
+    for segment in bid.listed() {
+        lines::put(out, &segment_line(segment));
     }
-    next
 }
 
 // What stands before the segments of a bid.
 #[tactic(auto, using(lines::proofs::Together::together), unfolding(booktext::specs::BookText::bid_head))]
-fn bid_head(bid: Bid) -> [Part; 8]
+fn bid_head(bid: Bid) -> [Part; 2]
     ensures { joined part_text result ≡ bid_head (bid_entries bid) }
 {
     [
         Part::Number(Word::Bid, bid.bidder),
         Part::Number(Word::Space, bid.carriage.0),
-        Part::Nothing,
-        Part::Nothing,
-        Part::Nothing,
-        Part::Nothing,
-        Part::Nothing,
-        Part::Nothing,
     ]
 }
 
-fn put_bid(out: &mut [u8], at: usize, bid: Bid) -> usize
-    requires { BidAt 900000 bid at }
-    ensures put { Put out.old at (bid_text (bid_entries bid)) out.new result }
-    ensures upper_bound { result ≤ at + 29000 }
+fn put_bid(out: &mut Output<'_>, bid: Bid)
+    requires { out.old.at ≤ 900000 }
+    ensures puts { Puts out.old (bid_text (bid_entries bid)) out.new }
+    ensures upper_bound { out.new.at ≤ out.old.at + 29000 }
 {
-    let head = bid_head(bid);
-    let segments = lines::put(out, at, head);
-    let close = put_segments(out, segments, bid);
-    lines::put_part(out, close, Part::Fixed(Word::CloseLine))
+    lines::put(out, &bid_head(bid));
+    put_segments(out, bid);
+    lines::put_part(out, Part::Fixed(Word::CloseLine));
 }
 
-fn put_bids(out: &mut [u8], at: usize, book: Book) -> usize
-    requires { BidsAt book at }
-    ensures { Put out.old at (joined bid_text (book_entries book).bids) out.new result }
+fn put_bids(out: &mut Output<'_>, book: Book)
+    requires { out.old.at ≤ 4000 }
+    ensures { Puts out.old (joined bid_text (book_entries book).bids) out.new }
 {
-    let mut next = at;
-    let mut i: usize = 0;
-    while i < book.count {
-        let b = book.bids[i];
-        next = put_bid(out, next, b);
-        i += 1;
+    for bid in book.listed() {
+        put_bid(out, *bid);
     }
-    next
 }
 
 // The line of a book that stands before its bids.
 #[tactic(auto, using(lines::proofs::Together::together), unfolding(booktext::specs::BookText::book_head))]
-fn book_head(book: Book) -> [Part; 8]
+fn book_head(book: Book) -> [Part; 3]
     ensures { joined part_text result ≡ book_head (book_entries book) }
 {
     [
         Part::Number(Word::Demand, book.order.demand.0),
         Part::Number(Word::Space, book.order.allowance.0),
         Part::Fixed(Word::CloseLine),
-        Part::Nothing,
-        Part::Nothing,
-        Part::Nothing,
-        Part::Nothing,
-        Part::Nothing,
     ]
 }
 
-// Of an accepted book, whose counts are in their ranges.
-pub fn put_book(out: &mut [u8], book: Book) -> usize
-    requires { book_verdict (book_entries book) ≡ Accepted }
-    ensures { Put out.old 0 (book_text (book_entries book)) out.new result }
+pub fn put_book(out: &mut Output<'_>, book: Book)
+    requires { out.old.at ≡ 0 }
+    ensures { Puts out.old (book_text (book_entries book)) out.new }
 {
-    let head = book_head(book);
-    let bids = lines::put(out, 0, head);
-    put_bids(out, bids, book)
+    lines::put(out, &book_head(book));
+    put_bids(out, book);
 }

@@ -2,24 +2,33 @@
 #![tactic(auto)]
 
 ghost use Rattle.std.specs.Prelude.{◌≡◌, length};
-ghost use Rattle.refusal.specs.Verdict.{Accepted};
-ghost use Rattle.book.specs.Entries.{book_entries};
-ghost use Rattle.book.specs.Rules.{book_verdict};
 ghost use Rattle.bookwriter.specs.Writing.{text_of, write_of, output_of};
 
 mod bids;
 
 use book::Book;
-use output::TextWritten;
-use refusal::Verdict;
+use output::{Text, TextWritten};
+use printer::Output;
 
-// How many bytes the text of an accepted book has, also for `sizes`: it is put into one byte, where it does not fit.
+// A book as the text that it is.
+#[derive(Clone, Copy)]
+struct BookText {
+    book: Book,
+}
+
+impl Text for BookText {
+    ghost text = { λ it. text_of it.book };
+
+    fn put(&self, out: &mut Output<'_>) {
+        bids::put_book(out, self.book);
+    }
+}
+
+// How many bytes the text of a book has, also for `sizes`.
 pub fn measure(book: Book) -> usize
-    requires { book_verdict (book_entries book) ≡ Accepted }
     ensures { result ≡ length (text_of book) }
 {
-    let mut nowhere = [0u8; 1];
-    bids::put_book(&mut nowhere, book)
+    output::measure(&BookText { book })
 }
 
 // Writes the text of an accepted book at the beginning of the output. With a refusal the output is unchanged.
@@ -28,13 +37,5 @@ pub fn write(book: Book, out: &mut [u8]) -> TextWritten
     ensures out_after { out.new ≡ output_of book out.old }
 {
     let verdict = bookrules::check(book);
-    if let Err(_) = verdict {
-        return output::refused(verdict);
-    }
-    let needed = measure(book);
-    if out.len() < needed {
-        return output::too_short(needed);
-    }
-    bids::put_book(out, book);
-    output::whole(needed)
+    TextWritten::from(output::write(verdict, &BookText { book }, out))
 }

@@ -5,6 +5,7 @@ use mathlib.Core.List.{List, [], ◌++◌}
 use mathlib.Core.Path.{◌≡◌, refl, sym, ap, subst, ◌∙◌}
 use borrow.Rule.Slice.Mut.{set_vals}
 use lib.ListN.{length, get_or, take}
+use lib.Seq.{take_all}
 use Rattle.lists.specs.Joined.{joined}
 use Rattle.lists.proofs.Joined.{joined_next}
 use Rattle.printer.specs.declared.Output.{Output}
@@ -33,6 +34,11 @@ puts_as {before} {after} e put = subst (λ (s : List ℕ). Puts before s after) 
 pub puts_next : {A : Type 0} (f : A → List ℕ) (xs : List A) (i : ℕ) (d : A) {before mid after : Output} → i < length xs
     → Puts before (joined f (take i xs)) mid → Puts mid (f (get_or xs i d)) after → Puts before (joined f (take (i + 1) xs)) after
 puts_next f xs i d h first second = puts_as (sym (joined_next f xs i d h)) (puts_then first second)
+
+-- after the last turn, of a loop over xs, all of them
+pub puts_all : {A : Type 0} (f : A → List ℕ) (xs ys : List A) (i : ℕ) {before after : Output} → length xs ≤ i → xs ≡ ys
+    → Puts before (joined f (take i xs)) after → Puts before (joined f ys) after
+puts_all f xs ys i h same put = puts_as (ap (joined f) (take_all i xs h ∙ same)) put
 
 -- a text stored, where it fits; and one that would end past the output's end
 pub puts_stored : (out : Output) (s exit : List ℕ) (next : ℕ) → out.at + length s ≤ length out.bytes.now → Wrote out.bytes.now out.at s exit next

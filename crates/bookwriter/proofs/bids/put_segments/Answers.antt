@@ -1,19 +1,23 @@
--- A turn puts one segment more right after those before it (`put_next`), so that after the last turn all are put.
-use Rattle.std.proofs.Common.{◌<◌, length, arith, rules}
-use Rattle.book.proofs.Records.{no_segment}
+-- A turn puts one segment more right after those before it (`puts_next`), so that after the last turn all are put.
+use Rattle.std.proofs.Common.{◌≡◌, length, arith}
+use Rattle.lists.proofs.Slices.{length_held}
 use Rattle.booktext.specs.BookText.{segment_text}
-use Rattle.printer.proofs.Put.{put_none, put_as, put_next}
+use Rattle.printer.proofs.Puts.{puts_none, puts_as, puts_next, puts_all}
+use Rattle.bookwriter.proofs.Sizes.{few_listed}
 use Rattle.bookwriter.proofs.bids.put_segments.Goals as goal
 
-pub loop-i-init : goal.loop-i-init
-loop-i-init c = (omega arith, omega arith, put_none _ _)
+pub loop-segment-init : goal.loop-segment-init
+loop-segment-init c =
+    let six : length c.args.bid.segments ≡ 6 = search (length_held, c.well_formed) in
+    record { few = few_listed _ _ _ 6 c.listed-segment-items.ensures six; place = omega arith; puts = puts_none _ }
 
-pub loop-i-preserved : goal.loop-i-preserved
-loop-i-preserved c =
-    let a = c.args in
-    let at = c.loop-i in
-    let p = c.put-next in
-    let segment = put_as at.out at.next _ _ p.new.out p.result c.segment_line-line.ensures p.ensures.put in
-    let within : at.i < length a.bid.segments = search rules in
-    let text = put_next a.out.now a.at segment_text a.bid.segments at.i no_segment at.out at.next p.new.out p.result in
-    (omega arith, omega (arith, p.ensures.upper_bound), text within at.auto.out at.invariant.2 segment)
+pub loop-segment-preserved : goal.loop-segment-preserved
+loop-segment-preserved c =
+    let at = c.loop-segment in record {
+      few = at.invariant.few;
+      place = omega (arith, c.put.ensures.upper_bound);
+      puts = puts_next segment_text _ at.segment-index _ c.loop-segment-test.true at.invariant.puts (puts_as c.segment_line.ensures c.put.ensures.puts);
+    }
+
+pub returns-clause-puts : goal.returns-clause-puts
+returns-clause-puts c = puts_all segment_text _ _ _ c.loop-segment-test.false c.listed-segment-items.ensures c.loop-segment.invariant.puts

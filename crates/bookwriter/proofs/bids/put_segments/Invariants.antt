@@ -1,12 +1,12 @@
-use Rattle.std.proofs.Common.{◌+◌, ◌*◌, ◌-◌, ◌≤◌, take}
+use Rattle.std.proofs.Common.{◌+◌, ◌*◌, ◌≤◌, length, take}
 use Rattle.lists.specs.Joined.{joined}
 use Rattle.booktext.specs.BookText.{segment_text}
-use Rattle.printer.specs.Written.{Put}
+use Rattle.printer.specs.Puts.{Puts}
 use Rattle.bookwriter.proofs.bids.put_segments.Given as goal
 
-abbrev pub invariant-loop-i : goal.invariant-loop-i
-invariant-loop-i l =
-    (l.i ≤ l.bid.count) × (l.next ≤ l.at + 4000 * l.i) × Put l.initial.out l.at (joined segment_text (take l.i l.bid.segments)) l.out l.next
-
-abbrev pub decreases-loop-i : goal.decreases-loop-i
-decreases-loop-i l = l.bid.count - l.i
+abbrev pub invariant-loop-segment : goal.invariant-loop-segment
+invariant-loop-segment l = record {
+  few : length l.segment-items ≤ 6;
+  place : l.out.at ≤ l.initial.out.at + 4000 * l.segment-index;
+  puts : Puts l.initial.out (joined segment_text (take l.segment-index l.segment-items)) l.out;
+}
