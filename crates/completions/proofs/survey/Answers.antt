@@ -30,13 +30,13 @@ pub invariant_of-table : goal.invariant_of-table
 invariant_of-table c =
     let table = c.args.table.now in
     let count = c.args.book.count in
-    record { graded = graded_end count (put_end table.classes count (search (length_held, c.well_formed)) c.requires.few) table.graded }
+    record { graded = graded_end count (put_end table.classes count (omega arith) c.requires.few) table.graded }
 
 pub loop-at-init : goal.loop-at-init
 loop-at-init c =
     let book = c.args.book in
     let eight : length book.bids ≡ 8 = search (length_held, c.well_formed) in
-    from_none _ _ _ book.count (put_end c.args.table.now.classes book.count (search (length_held, c.well_formed)) c.requires.few)
+    from_none _ _ _ book.count (put_end c.args.table.now.classes book.count (omega arith) c.requires.few)
     (supplies_done book.bids book.count (held c.requires eight) book.count (omega arith))
 
 pub segment_of-last-requires : goal.segment_of-last-requires

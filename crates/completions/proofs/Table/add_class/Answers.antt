@@ -17,12 +17,12 @@ pub invariant_of-self : goal.invariant_of-self
 invariant_of-self c =
     let s = c.args.self.now in
     let t = c.args.turn in
-    let put = put s.classes t.at c.class_of.result c.args.x (search (length_held, c.well_formed)) t.held c.class_of.ensures in
+    let put = put s.classes t.at c.class_of.result c.args.x (omega arith) t.held c.class_of.ensures in
     rw c.joined.ensures (record { graded = added_graded s.classes _ t.at c.class_of.result c.args.x s.graded c.requires t.held c.class_of.ensures put })
 
 pub returns : goal.returns
 returns c =
     let s = c.args.self.now in
     let t = c.args.turn in
-    let put = put s.classes t.at c.class_of.result c.args.x (search (length_held, c.well_formed)) t.held c.class_of.ensures in
+    let put = put s.classes t.at c.class_of.result c.args.x (omega arith) t.held c.class_of.ensures in
     rw c.joined.ensures (added s.classes _ t.at c.class_of.result c.args.x s.graded c.requires t.held c.class_of.ensures put)
