@@ -2,13 +2,27 @@
 #![tactic(auto)]
 
 ghost use Rattle.std.specs.Prelude.{◌≡◌, length};
-ghost use Rattle.tablewriter.specs.Writing.{write_table_of, table_output_of};
+ghost use Rattle.tablewriter.specs.Writing.{table_text_of, write_table_of, table_output_of};
 
 mod bands;
 
-use output::TextWritten;
-use refusal::Verdict;
+use output::{Text, TextWritten};
+use printer::Output;
 use sampling::Table;
+
+// A table as the text that it is.
+#[derive(Clone, Copy)]
+struct TableText {
+    table: Table,
+}
+
+impl Text for TableText {
+    ghost text = { λ it. table_text_of it.table };
+
+    fn put(&self, out: &mut Output<'_>) {
+        bands::put_bands(out, self.table);
+    }
+}
 
 // Writes the text of a table that passes at the beginning of the output. With a refusal the output is unchanged.
 pub fn write(table: Table, out: &mut [u8]) -> TextWritten
@@ -16,15 +30,5 @@ pub fn write(table: Table, out: &mut [u8]) -> TextWritten
     ensures out_after { out.new ≡ table_output_of table out.old }
 {
     let verdict = tablerules::check(table);
-    if let Err(_) = verdict {
-        return output::refused(verdict);
-    }
-    let mut nowhere = [0u8; 1];
-    let needed = bands::put_bands(&mut nowhere, table);
-    let short = out.len() < needed;
-    if short {
-        return output::too_short(needed);
-    }
-    bands::put_bands(out, table);
-    output::whole(needed)
+    TextWritten::from(output::write(verdict, &TableText { table }, out))
 }

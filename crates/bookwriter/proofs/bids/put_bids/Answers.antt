@@ -1,8 +1,9 @@
 -- A turn puts one bid more right after those before it (`puts_next`), so that after the last turn all are put.
 use Rattle.std.proofs.Common.{◌≡◌, length, sym, arith}
 use Rattle.lists.proofs.Slices.{length_held}
+use Rattle.lines.proofs.Listed.{few_listed}
 use Rattle.printer.proofs.Puts.{puts_none, puts_as, puts_next, puts_all}
-use Rattle.bookwriter.proofs.Sizes.{few_listed, bid_line, bid_lines}
+use Rattle.bookwriter.proofs.Sizes.{bid_line, bid_lines}
 use Rattle.bookwriter.proofs.bids.put_bids.Goals as goal
 
 pub loop-bid-init : goal.loop-bid-init

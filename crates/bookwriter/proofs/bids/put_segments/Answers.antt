@@ -2,8 +2,8 @@
 use Rattle.std.proofs.Common.{◌≡◌, length, arith}
 use Rattle.lists.proofs.Slices.{length_held}
 use Rattle.booktext.specs.BookText.{segment_text}
+use Rattle.lines.proofs.Listed.{few_listed}
 use Rattle.printer.proofs.Puts.{puts_none, puts_as, puts_next, puts_all}
-use Rattle.bookwriter.proofs.Sizes.{few_listed}
 use Rattle.bookwriter.proofs.bids.put_segments.Goals as goal
 
 pub loop-segment-init : goal.loop-segment-init

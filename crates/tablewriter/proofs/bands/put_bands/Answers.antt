@@ -1,26 +1,24 @@
--- A turn puts one band more right after those before it (`put_next`), so that after the last turn all are put.
-use Rattle.std.proofs.Common.{◌≡◌, ◌<◌, length, take, ap, arith, rules}
-use Rattle.lists.specs.Joined.{joined}
-use Rattle.printer.proofs.Put.{put_none, put_as, put_next}
+-- A turn puts one band more right after those before it (`puts_next`), so that after the last turn all are put.
+use Rattle.std.proofs.Common.{◌≡◌, length, arith}
+use Rattle.lists.proofs.Slices.{length_held}
+use Rattle.lines.proofs.Listed.{few_listed}
+use Rattle.printer.proofs.Puts.{puts_none, puts_as, puts_next, puts_all}
 use Rattle.tabletext.specs.TableText.{band_text, table_text}
-use Rattle.tabletext.specs.Record.{empty_band}
 use Rattle.tablewriter.proofs.bands.put_bands.Goals as goal
 
-pub loop-i-init : goal.loop-i-init
-loop-i-init c = (omega arith, omega arith, put_none _ _)
+pub loop-band-init : goal.loop-band-init
+loop-band-init c =
+    let sixteen : length c.args.table.bands ≡ 16 = search (length_held, c.well_formed) in
+    record { few = few_listed _ _ _ 16 c.listed-band-items.ensures sixteen; place = omega arith; puts = puts_none _ }
 
-pub loop-i-preserved : goal.loop-i-preserved
-loop-i-preserved c =
-    let a = c.args in
-    let at = c.loop-i in
-    let p = c.put-next in
-    let band = put_as at.out at.next _ _ p.new.out p.result c.band_line-line.ensures p.ensures.put in
-    let within : at.i < length a.table.bands = search rules in
-    let text = put_next a.out.now 0 band_text a.table.bands at.i empty_band at.out at.next p.new.out p.result in
-    (omega arith, omega (arith, p.ensures.upper_bound), text within at.auto.out at.invariant.2 band)
+pub loop-band-preserved : goal.loop-band-preserved
+loop-band-preserved c =
+    let at = c.loop-band in record {
+      few = at.invariant.few;
+      place = omega (arith, c.put.ensures.upper_bound);
+      puts = puts_next band_text _ at.band-index _ c.loop-band-test.true at.invariant.puts (puts_as c.band_line.ensures c.put.ensures.puts);
+    }
 
 pub returns : goal.returns
 unfolding table_text
-returns c =
-    let done : c.loop-i.i ≡ c.args.table.count = omega arith in
-    put_as _ _ _ _ _ _ (ap (λ n. joined band_text (take n c.args.table.bands)) done) c.loop-i.invariant.2
+returns c = puts_all band_text _ _ _ c.loop-band-test.false c.listed-band-items.ensures c.loop-band.invariant.puts
