@@ -76,7 +76,7 @@ fn digit(d: u64) -> u8
     requires { d < 10 }
     ensures { result ≡ 48 + d }
 {
-    48 + (d as u8)
+    b'0' + (d as u8)
 }
 
 // How many digits n has. Counted by a loop: the library's logarithms are of base 2 alone.
