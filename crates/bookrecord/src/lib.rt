@@ -46,31 +46,17 @@ pub fn empty_book() -> Book
 }
 
 // Where the array is full the segment is counted and not stored.
-pub fn with_segment(bid: Bid, segment: Segment) -> Bid
-    requires { bid.count < 18446744073709551615 }
-    ensures { result ≡ with_segment bid segment }
+pub fn add_segment(bid: &mut Bid, segment: Segment)
+    requires { bid.now.count < 18446744073709551615 }
+    ensures { bid.new ≡ with_segment bid.old segment }
 {
-    let mut next = bid;
-    let count = bid.count;
-    next.count = count + 1;
-    if 6 <= count {
-        return next;
-    }
-    next.segments[count] = segment;
-    next
+    lists::add(&mut bid.segments, &mut bid.count, segment);
 }
 
 // Where the array is full the bid is counted and not stored.
-pub fn with_bid(book: Book, bid: Bid) -> Book
-    requires { book.count < 18446744073709551615 }
-    ensures { result ≡ with_bid book bid }
+pub fn add_bid(book: &mut Book, bid: Bid)
+    requires { book.now.count < 18446744073709551615 }
+    ensures { book.new ≡ with_bid book.old bid }
 {
-    let mut more = book;
-    let count = book.count;
-    more.count = count + 1;
-    if 8 <= count {
-        return more;
-    }
-    more.bids[count] = bid;
-    more
+    lists::add(&mut book.bids, &mut book.count, bid);
 }
