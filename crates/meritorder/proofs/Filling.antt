@@ -2,14 +2,11 @@
 use Prim.Native.Nat.{ℕ, suc, ◌+◌, ◌-◌, ◌*◌, ◌≤◌, ◌<◌}
 use native.Mathlib.Numerals.{add-one}
 use native.Mathlib.Omega.{arith}
-use mathlib.Core.Bool.{true, false}
 use mathlib.Core.List.{List, [], ◌∷◌, reverse, reverse_aux}
 use mathlib.Core.Path.{◌≡◌, sym, ap, ◌∙◌}
-use borrow.Author.Tests.{ltb-true, ltb-false, le-leb, lt-leb}
-use lib.Dec.{leb, ltb}
-use lib.IntN.{ℤ, pos, nat_abs, ◌+ℤ◌, +ℤ_assoc, +ℤ_idl, +ℤ_idr}
+use lib.IntN.{ℤ, nat_abs, ◌+ℤ◌, +ℤ_assoc, +ℤ_idr}
 use lib.ListN.{length, set, take, length-set, length-map}
-use lib.Seq.{slice, slice_empty}
+use lib.Seq.{slice}
 use mir.Syntax.{w64}
 use mir.Val.{SFits}
 use Rattle.lists.proofs.Latest.{latest_none, latest_next}
@@ -20,34 +17,15 @@ use Rattle.book.specs.declared.Segment.{Segment}
 use Rattle.book.specs.declared.Order.{Order}
 use Rattle.book.specs.Rules.{price_on}
 use Rattle.supply.specs.Supply.{segment0}
-use Rattle.supply.specs.Meets.{most_of}
 use Rattle.supply.specs.Sound.{most_blanks, price_limit, SoundSegment}
 use Rattle.supply.proofs.Sound.{price_small}
 use Rattle.divisions.specs.Award.{Priced}
-use Rattle.choices.specs.Choice.{starts, fits, width, extra, extras, placed, cost_with, filled}
+use Rattle.choices.specs.Choice.{width, extra, extras, placed, cost_with, filled}
 use Rattle.choicerecord.specs.declared.Choice.{Choice}
-use Rattle.choicerecord.specs.Records.{segment_at, first_segments, chosen, Carried, Sound}
-use Rattle.choicerecord.proofs.Choosing.{sound_at}
+use Rattle.choicerecord.specs.Records.{segment_at, first_segments, chosen}
 use Rattle.comparison.specs.Records.{blanks_in}
 
--- whether a choice fits, from the carried sums
-module _ (order : Order) (c : Choice) (carried : Carried c) where
-  pub too_many : ltb (most_of order) c.starts.0 ≡ true → false ≡ fits order (chosen c)
-  unfolding fits
-  too_many e =
-      let h = ltb-true (most_of order) c.starts.0 e in
-      rw (lt-leb (starts (chosen c)) (most_of order) (omega (arith, carried.starts)))
-
-  pub not_too_many : ltb (most_of order) c.starts.0 ≡ false → leb order.demand.0 c.ends.0 ≡ fits order (chosen c)
-  unfolding fits
-  not_too_many e =
-      let h = ltb-false (most_of order) c.starts.0 e in
-      rw (le-leb (starts (chosen c)) (most_of order) (omega (arith, carried.starts)), carried.ends)
-
--- an extra is no more than what is left, and with the start no more than the end
-pub extra_left : (left : ℕ) (s : Segment) (c : List Segment) → extra left s c ≤ left
-extra_left left s c = omega arith
-
+-- with the start an extra is no more than the end
 extra_end : (left : ℕ) (s : Segment) (c : List Segment) → s.start.0 ≤ s.end.0 → s.start.0 + extra left s c ≤ s.end.0
 unfolding width
 extra_end left s c h = omega arith
@@ -67,18 +45,9 @@ pub record Filling (c : Choice) (all left : ℕ) (quantities : List Blanks) (tot
   pub cost : total +ℤ cost_from left (first_segments c i) ≡ cost_from all (chosen c)
   pub given : reverse_aux (given_from left (first_segments c i)) (slice i c.count (blanks_in quantities)) ≡ reverse (given_from all (chosen c))
 
-pub filling_none : (c : Choice) (all : ℕ) (quantities : List Blanks) → length quantities ≡ 8 → Filling c all all quantities (pos 0) c.count
-filling_none c all quantities h = record {
-  within = omega arith;
-  held = h;
-  size = omega arith;
-  cost = +ℤ_idl (cost_from all (chosen c));
-  given = rw (slice_empty c.count (blanks_in quantities));
-}
-
 module _ {c : Choice} {all left : ℕ} {quantities : List Blanks} {total : ℤ} {i : ℕ} (filling : Filling c all left quantities total i) where
   -- the bidder before gets its extra
-  module _ (k : ℕ) (is-next : i ≡ suc k) (sound : Sound c) where
+  module _ (k : ℕ) (is-next : i ≡ suc k) where
     abbrev this : Segment
     this = segment_at c k
 
@@ -86,7 +55,7 @@ module _ {c : Choice} {all left : ℕ} {quantities : List Blanks} {total : ℤ} 
     earlier = first_segments c k
 
     pub sound_this : SoundSegment this
-    sound_this = sound_at sound k (omega (arith, filling.within))
+    sound_this = c.sound.each k (omega (arith, filling.within))
 
     here : first_segments c i ≡ this ∷ earlier
     here = ap (first_segments c) is-next ∙ latest_next segment0 c.segments k
@@ -102,7 +71,7 @@ module _ {c : Choice} {all left : ℕ} {quantities : List Blanks} {total : ℤ} 
           omega (arith, nat_abs_plus total p, filling.size)
 
       pub total_fits : SFits w64 (total +ℤ p)
-      total_fits = small_fits (total +ℤ p) (omega (arith, total_small, sound.few))
+      total_fits = small_fits (total +ℤ p) (omega (arith, total_small, c.sound.few))
 
       next_cost : (total +ℤ p) +ℤ cost_from (left - x) earlier ≡ cost_from all (chosen c)
       next_cost =
@@ -113,7 +82,7 @@ module _ {c : Choice} {all left : ℕ} {quantities : List Blanks} {total : ℤ} 
       module _ (q : Blanks) (is-quantity : q.0 ≡ this.start.0 + x) where
         stored : slice k c.count (blanks_in (set quantities k q)) ≡ (this.start.0 + x) ∷ slice i c.count (blanks_in quantities)
         stored =
-            let held : c.count ≤ length (blanks_in quantities) = rw length-map (omega (arith, filling.held, sound.few)) in
+            let held : c.count ≤ length (blanks_in quantities) = rw length-map (omega (arith, filling.held, c.sound.few)) in
             let below : k < c.count = omega (arith, filling.within) in
             rw (map_set, slice_set (blanks_in quantities) k c.count q.0 below held, is-quantity, is-next, add-one)
 
@@ -140,7 +109,7 @@ module _ {c : Choice} {all left : ℕ} {quantities : List Blanks} {total : ℤ} 
     all_given : take c.count (blanks_in quantities) ≡ reverse (given_from all (chosen c))
     all_given = rw none_left at (rw last at filling.given)
 
-    pub filling_all : (order : Order) (low blanks : ℕ) → low ≡ starts (chosen c) → all ≡ order.demand.0 - low → blanks ≡ low + all
+    pub filling_all : (order : Order) (blanks : ℕ) → all ≡ order.demand.0 - c.starts.0 → blanks ≡ c.starts.0 + all
         → ◌≡◌ {A = Priced} (record { cost = total; blanks = blanks; quantities = take c.count (blanks_in quantities) }) (filled order (chosen c))
     unfolding filled
-    filling_all order low blanks carried e b = rw (all_cost, all_given, b, e, carried)
+    filling_all order blanks e b = rw (all_cost, all_given, b, e, c.sound.starts_carried)

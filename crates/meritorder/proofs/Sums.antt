@@ -1,58 +1,65 @@
--- What the chosen segments that are no dearer can take, as a loop from the first bidder to the last adds it up. Assumes nothing.
-use Prim.Native.Nat.{ℕ, ◌+◌, ◌-◌, ◌*◌, ◌≤◌, ◌<◌}
-use native.Mathlib.Numerals.{add-one}
+-- What the chosen segments that are no dearer can take, as a chain over the array adds it up. Assumes nothing.
+use Prim.Native.Nat.{ℕ, zero, suc, ◌≤◌, ◌<◌}
 use native.Mathlib.Omega.{arith}
 use mathlib.Core.Bool.{Bool, true, false, cond}
-use mathlib.Core.Path.{◌≡◌, sym, ap, ◌∙◌}
-use borrow.Author.Tests.{le-leb, lt-leb}
+use mathlib.Core.List.{List, [], ◌∷◌, map}
+use mathlib.Core.Path.{◌≡◌, refl, ap}
 use lib.Dec.{leb}
-use Rattle.lists.proofs.Latest.{latest_none, latest_next}
+use lib.ListN.{length, get_or, take}
+use lib.Seq.{take-suc}
+use Rattle.std.specs.List.{filter, sum}
+use Rattle.std.proofs.lemmas.List.{map-append}
+use Rattle.std.proofs.lemmas.List.Elements.{filter-append}
+use Rattle.std.proofs.lemmas.List.Sums.{sum_by-append}
+use Rattle.lists.specs.All.{All}
+use Rattle.lists.specs.Latest.{latest}
+use Rattle.lists.proofs.Latest.{latest_none, latest_next, latest_all, length_latest}
 use Rattle.book.specs.declared.Segment.{Segment}
 use Rattle.supply.specs.Supply.{segment0}
-use Rattle.supply.specs.Sound.{most_blanks, SoundSegment}
-use Rattle.choices.specs.Choice.{width, width_at, cheaper}
+use Rattle.supply.specs.Sound.{SoundSegment}
+use Rattle.choices.specs.Choice.{ends, width, width_at, cheaper}
+use Rattle.choices.proofs.Sums.{ends_small}
 use Rattle.choicerecord.specs.declared.Choice.{Choice}
-use Rattle.choicerecord.specs.Records.{segment_at, first_segments}
-use Rattle.choicerecord.proofs.Choosing.{sound_at}
-use Rattle.meritorder.specs.Asked.{HasFirst}
+use Rattle.choicerecord.specs.Records.{first_segments}
+use Rattle.meritorder.specs.Widths.{widths}
 
--- a width counts, or its segment is dearer
-pub width_counts : (unit : ℕ) (s : Segment) → s.unit.0 ≤ unit → width_at unit s ≡ s.end.0 - s.start.0
+one_width : (unit : ℕ) (s : Segment) → widths unit (s ∷ []) ≡ width_at unit s
+one_width unit s = go (leb s.unit.0 unit)
+  where
+    go : (t : Bool) → sum (map (λ (s : Segment). width s) (cond t (s ∷ []) [])) ≡ cond t (width s) 0
+    go true = omega arith
+    go false = refl
+
+pub widths_cheaper : (unit : ℕ) (ss : List Segment) (n : ℕ) → n ≤ length ss → widths unit (take n ss) ≡ cheaper unit (latest segment0 ss n)
+widths_cheaper unit ss zero h = rw (latest_none segment0 ss)
+widths_cheaper unit ss (suc n) h =
+    let further : n < length ss = omega arith in
+    let last = get_or ss n segment0 in
+    let counts = λ (s : Segment). leb s.unit.0 unit in
+    let first = take n ss in
+    let one = last ∷ [] in
+    let e = ap (widths unit) (take-suc ss n segment0 further) in
+    let f = ap (λ l. sum (map (λ (s : Segment). width s) l)) (filter-append counts first one) in
+    let g = ap sum (map-append (λ (s : Segment). width s) (filter counts first) (filter counts one)) in
+    let h' = sum_by-append (λ (n : ℕ). n) (map (λ (s : Segment). width s) (filter counts first)) (map (λ (s : Segment). width s) (filter counts one)) in
+    rw (latest_next segment0 ss n)
+    (omega (arith, e, f, g, h', widths_cheaper unit ss n (omega arith), one_width unit last))
+
+-- It is no more than the ends add up to.
+
+width_high : (unit : ℕ) (s : Segment) → width_at unit s ≤ s.end.0
 unfolding width
-width_counts unit s h = rw (le-leb s.unit.0 unit h)
+width_high unit s = go (leb s.unit.0 unit)
+  where
+    go : (t : Bool) → cond t (width s) 0 ≤ s.end.0
+    go true = omega arith
+    go false = omega arith
 
-pub dearer : (unit : ℕ) (s : Segment) → unit < s.unit.0 → width_at unit s ≡ 0
-dearer unit s h = rw (lt-leb s.unit.0 unit h)
+cheaper_high : (unit : ℕ) (c : List Segment) → cheaper unit c ≤ ends c
+cheaper_high unit [] = omega arith
+cheaper_high unit (s ∷ c) = omega (arith, width_high unit s, cheaper_high unit c)
 
-width_high : (s : Segment) → SoundSegment s → (counts : Bool) → cond counts (width s) 0 ≤ most_blanks
-unfolding width
-width_high s sound true = omega (arith, sound.end_high)
-width_high s sound false = omega arith
-
--- `sum` is what the first i of n segments can take
-pub record Summed (unit : ℕ) (c : Choice) (n i sum : ℕ) : Type 0 where
-  pub within : i ≤ n
-  pub size : sum ≤ most_blanks * i
-  pub value : sum ≡ cheaper unit (first_segments c i)
-
-pub summed_none : (unit : ℕ) (c : Choice) (n : ℕ) → Summed unit c n 0 0
-summed_none unit c n = record { within = omega arith; size = omega arith; value = sym (ap (cheaper unit) (latest_none segment0 c.segments)) }
-
-module _ {unit : ℕ} {c : Choice} {n i sum : ℕ} (summed : Summed unit c n i sum) where
-  pub summed_all : n ≤ i → sum ≡ cheaper unit (first_segments c n)
-  summed_all h = let e : i ≡ n = omega (arith, summed.within) in summed.value ∙ ap (λ (k : ℕ). cheaper unit (first_segments c k)) e
-
-  -- a turn adds the width of the next segment
-  module _ (has : HasFirst c n) (further : i < n) where
-    little : width_at unit (segment_at c i) ≤ most_blanks
-    little = width_high (segment_at c i) (sound_at has.sound i (omega (arith, has.within))) (leb (segment_at c i).unit.0 unit)
-
-    pub sum_small : sum + width_at unit (segment_at c i) ≤ 8000000
-    sum_small = omega (arith, little, summed.size, has.within, has.sound.few)
-
-    value_next : cheaper unit (first_segments c (i + 1)) ≡ width_at unit (segment_at c i) + cheaper unit (first_segments c i)
-    value_next = rw add-one (ap (cheaper unit) (latest_next segment0 c.segments i))
-
-    pub summed_next : (sum' : ℕ) → sum' ≡ sum + width_at unit (segment_at c i) → Summed unit c n (i + 1) sum'
-    summed_next sum' e =
-        record { within = omega arith; size = omega (arith, little, summed.size); value = omega (arith, value_next, summed.value) }
+pub cheaper_small : (unit : ℕ) (c : Choice) (n : ℕ) → n ≤ c.count → cheaper unit (first_segments c n) ≤ 8000000
+cheaper_small unit c n h =
+    let sound : All SoundSegment (first_segments c n) = latest_all segment0 SoundSegment c.segments n (λ i l. c.sound.each i (omega arith)) in
+    omega (arith, cheaper_high unit (first_segments c n), ends_small (first_segments c n) sound, length_latest segment0 c.segments n, c.sound.few)

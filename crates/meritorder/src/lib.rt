@@ -1,29 +1,24 @@
 // A choice of a segment for each bidder: whether it fits the order, and the cheapest quantities within it.
 #![tactic(auto)]
 
-ghost use Rattle.std.specs.Prelude.{◌≡◌, true, ◌+◌, ◌-◌, leb};
-ghost use Rattle.choices.specs.Choice.{fits, cheaper, extra, filled};
-ghost use Rattle.choicerecord.specs.Records.{segment_at, first_segments, chosen, Sound};
+ghost use Rattle.std.specs.Prelude.{◌≡◌, ◌^◌, ◌<◌, leb};
+ghost use Rattle.choices.specs.Choice.{fits, width, extra, filled};
+ghost use Rattle.choicerecord.specs.Records.{segment_at, first_segments, chosen};
 ghost use Rattle.comparison.specs.Records.{division_in};
-ghost use Rattle.meritorder.specs.Asked.{HasFirst, Fillable};
+ghost use Rattle.meritorder.specs.Widths.{widths};
 
 use book::{Order, Segment};
 use choicerecord::Choice;
-use comparison::MaybeDivision;
+use comparison::PricedDivision;
 use money::{Blanks, Cents, CentsPerBlank};
 
 // The starts add up to no more than the order takes, and the ends to at least the demand, by the sums that the choice
 // carries; prices do not matter.
+#[tactic(auto, unfolding(choices::specs::Choice::fits))]
 pub fn fits(c: Choice, order: Order) -> bool
-    requires { Sound c }
     ensures { result ≡ fits order (chosen c) }
 {
-    let starts = c.starts;
-    if supply::passes(order, starts) {
-        return false;
-    }
-    let ends = c.ends;
-    supply::reaches(order, ends)
+    !supply::passes(order, c.starts) && supply::reaches(order, c.ends)
 }
 
 // Whether a further blank costs no more on s than `unit`. Its unit price decides, and not what its
@@ -31,84 +26,60 @@ pub fn fits(c: Choice, order: Order) -> bool
 fn no_dearer(s: Segment, unit: CentsPerBlank) -> bool
     ensures { result ≡ leb s.unit.0 unit.0 }
 {
-    s.unit.0 <= unit.0
+    s.unit <= unit
 }
 
-// What the first n of the chosen segments can take over their starts, of those that are no dearer
-// than `unit`. A sum is a plain number while it is added up.
-fn cheaper(c: Choice, n: usize, unit: CentsPerBlank) -> Blanks
-    requires { HasFirst c n }
-    ensures { result.0 ≡ cheaper unit.0 (first_segments c n) }
+// How much a segment can take over its start.
+#[tactic(auto, unfolding(choices::specs::Choice::width))]
+fn width(s: Segment) -> u64
+    ensures { result ≡ width s }
 {
-    let mut sum: u64 = 0;
-    let mut i: usize = 0;
-    while i < n {
-        let s = c.segments[i];
-        if no_dearer(s, unit) {
-            sum += s.end.0 - s.start.0;
-        }
-        i += 1;
-    }
-    Blanks(sum)
+    s.end.0.saturating_sub(s.start.0)
+}
+
+// What segments can take over their starts, of those that are no dearer than `unit`.
+fn cheaper(segments: &[Segment], unit: CentsPerBlank) -> Blanks
+    requires { widths unit.0 segments.now < 2 ^ 64 }
+    ensures { result.0 ≡ widths unit.0 segments.now }
+{
+    let widths = segments
+        .iter()
+        .filter(|s| no_dearer(**s, unit))
+        .map(|s| width(*s));
+    Blanks(widths.sum())
 }
 
 // What bidder i gets over its start, where there is so much left for it and those before it: what
 // those of them who are no dearer cannot take.
+#[tactic(auto, using(crate::proofs::Sums::widths_cheaper, crate::proofs::Sums::cheaper_small), unfolding(choices::specs::Choice::width))]
 fn extra(c: Choice, i: usize, left: Blanks) -> Blanks
-    requires { HasFirst c (i + 1) }
+    requires { i < c.count }
     ensures { result.0 ≡ extra left.0 (segment_at c i) (first_segments c i) }
 {
     let s = c.segments[i];
-    let unit = s.unit;
-    let earlier = cheaper(c, i, unit);
-    let width = s.end.0 - s.start.0;
-    if left.0 <= earlier.0 {
-        return Blanks(0);
-    }
-    let over = left.0 - earlier.0;
-    if width < over {
-        return Blanks(width);
-    }
-    Blanks(over)
-}
-
-// What the demand leaves over the starts: nothing where these reach or pass it.
-fn left_over(order: Order, starts: Blanks) -> Blanks
-    ensures { result.0 ≡ order.demand.0 - starts.0 }
-{
-    if starts.0 < order.demand.0 {
-        return Blanks(order.demand.0 - starts.0);
-    }
-    Blanks(0)
+    let earlier = cheaper(&c.segments[..i], s.unit);
+    Blanks(width(s).min(left.0.saturating_sub(earlier.0)))
 }
 
 // The best quantities within a choice that fits, as many as the demand, or as the starts where these
 // pass it: from the last bidder to the first, each gets its start and its extra of what is left.
-pub fn fill(c: Choice, order: Order) -> MaybeDivision
-    requires { Fillable c order }
-    ensures found_value { result.found ≡ true }
-    ensures result_value { division_in c.count result ≡ filled order (chosen c) }
+pub fn fill(c: Choice, order: Order) -> PricedDivision
+    ensures { division_in c.count result ≡ filled order (chosen c) }
 {
-    let low = c.starts;
-    let mut left = left_over(order, low);
-    let bought = Blanks(low.0 + left.0);
+    let mut left = Blanks(order.demand.0.saturating_sub(c.starts.0));
+    let bought = c.starts + left;
     let mut quantities = [Blanks(0); 8];
     let mut cost = Cents(0);
-    let mut i = c.count;
-    while 0 < i {
-        i -= 1;
+    for i in (0..c.count).rev() {
         let s = c.segments[i];
         let x = extra(c, i, left);
-        left = Blanks(left.0 - x.0);
-        let quantity = Blanks(s.start.0 + x.0);
+        left = left - x;
+        let quantity = s.start + x;
         quantities[i] = quantity;
-        let unit = s.unit;
-        let fixed = s.fixed;
-        let price = money::price(unit, quantity, fixed);
-        cost = money::plus(cost, price);
+        let price = money::price(s.unit, quantity, s.fixed);
+        cost = cost + price;
     }
-    MaybeDivision {
-        found: true,
+    PricedDivision {
         cost,
         bought,
         quantities,
