@@ -12,8 +12,9 @@ mod rows;
 
 use award::Award;
 use output::TextWritten;
+use rows::LaidOut;
 
-// The sheet has a form a line, and the page has columns.
+// The sheet has a form a line, and the page has columns. An enum, since `write` takes the layout as a value.
 #[derive(Clone, Copy)]
 pub enum Layout {
     Sheet,
@@ -26,11 +27,6 @@ pub fn write(layout: Layout, award: Award, out: &mut [u8]) -> TextWritten
     ensures value { result ≡ written_of Accepted (layout_text layout award) (length out.old) }
     ensures out_after { out.new ≡ output_after Accepted (layout_text layout award) out.old }
 {
-    let mut nowhere = [0u8; 1];
-    let needed = rows::put_award(&mut nowhere, layout, award);
-    if out.len() < needed {
-        return output::too_short(needed);
-    }
-    rows::put_award(out, layout, award);
-    output::whole(needed)
+    let text = LaidOut { layout, award: &award };
+    output::write(Ok(()), &text, out).into()
 }

@@ -8,22 +8,24 @@ use crate::Layout;
 use award::{Award, Row};
 use lines::Part;
 
-// Demand, what is bought, and total price.
-pub fn first_line(layout: Layout, award: Award) -> [Part; 8]
-    ensures { joined part_text result ≡ layout_first layout award }
-{
-    match layout {
-        Layout::Sheet => sheetlines::first_line(award),
-        Layout::Page => pagelines::first_line(award),
+impl Layout {
+    // Demand, what is bought, and total price.
+    pub fn first_line(self, award: &Award) -> [Part; 4]
+        ensures { joined part_text result ≡ layout_first self award.now }
+    {
+        match self {
+            Layout::Sheet => sheetlines::first_line(award),
+            Layout::Page => pagelines::first_line(award),
+        }
     }
-}
 
-// The line of a bid.
-pub fn row_line(layout: Layout, row: Row) -> [Part; 8]
-    ensures { joined part_text result ≡ layout_row layout row }
-{
-    match layout {
-        Layout::Sheet => sheetlines::row_line(row),
-        Layout::Page => pagelines::row_line(row),
+    // The line of a bid.
+    pub fn row_line(self, row: &Row) -> [Part; 7]
+        ensures { joined part_text result ≡ layout_row self row.now }
+    {
+        match self {
+            Layout::Sheet => sheetlines::row_line(row),
+            Layout::Page => pagelines::row_line(row),
+        }
     }
 }

@@ -23,38 +23,30 @@ fn without_shown(total: Total) -> Shown
 }
 
 // Bidder, segment, quantity, price, blanks to sample, and the total without the bidder.
-pub fn row_line(row: Row) -> [Part; 8]
-    ensures { joined part_text result ≡ page_row row }
+pub fn row_line(row: &Row) -> [Part; 7]
+    ensures { joined part_text result ≡ page_row row.now }
 {
-    let price = row.price;
-    let total = row.without;
-    let without = without_shown(total);
+    let without = without_shown(row.without);
     [
         Part::Column(6, Shown::InDigits(row.bidder)),
         Part::Column(4, Shown::InDigits(row.segment)),
         Part::Column(10, Shown::InDigits(row.quantity.0)),
-        Part::Column(20, Shown::InMoney(price)),
+        Part::Column(20, Shown::InMoney(row.price)),
         Part::Column(6, Shown::InDigits(row.sample.0)),
         Part::Column(18, without),
         Part::Fixed(Word::EndLine),
-        Part::Nothing,
     ]
 }
 
 // Demand, what is bought, and total price.
 #[tactic(auto, unfolding(pagetext::specs::Page::page_first))]
-pub fn first_line(award: Award) -> [Part; 8]
-    ensures { joined part_text result ≡ page_first award }
+pub fn first_line(award: &Award) -> [Part; 4]
+    ensures { joined part_text result ≡ page_first award.now }
 {
-    let total = award.total;
     [
         Part::Column(20, Shown::InDigits(award.demand.0)),
         Part::Column(20, Shown::InDigits(award.bought.0)),
-        Part::Column(24, Shown::InMoney(total)),
+        Part::Column(24, Shown::InMoney(award.total)),
         Part::Fixed(Word::EndLine),
-        Part::Nothing,
-        Part::Nothing,
-        Part::Nothing,
-        Part::Nothing,
     ]
 }

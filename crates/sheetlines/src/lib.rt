@@ -23,57 +23,42 @@ fn without_part(total: Total) -> Part
 }
 
 // Bidder, segment, quantity, price, blanks to sample, and the total without the bidder.
-pub fn row_line(row: Row) -> [Part; 8]
-    ensures { joined part_text result ≡ row_text row }
+pub fn row_line(row: &Row) -> [Part; 7]
+    ensures { joined part_text result ≡ row_text row.now }
 {
-    let price = row.price;
-    let total = row.without;
-    let without = without_part(total);
+    let without = without_part(row.without);
     [
         Part::Number(Word::Buy, row.bidder),
         Part::Number(Word::Space, row.segment),
         Part::Number(Word::Space, row.quantity.0),
-        Part::Price(Word::Space, price),
+        Part::Price(Word::Space, row.price),
         Part::Number(Word::Space, row.sample.0),
         without,
         Part::Fixed(Word::CloseRow),
-        Part::Nothing,
     ]
 }
 
 // Demand, what is bought, and total price.
 #[tactic(auto, unfolding(sheettext::specs::Sheet::first_text))]
-pub fn first_line(award: Award) -> [Part; 8]
-    ensures { joined part_text result ≡ first_text award }
+pub fn first_line(award: &Award) -> [Part; 4]
+    ensures { joined part_text result ≡ first_text award.now }
 {
-    let total = award.total;
     [
         Part::Number(Word::Award, award.demand.0),
         Part::Number(Word::Space, award.bought.0),
-        Part::Price(Word::Space, total),
+        Part::Price(Word::Space, award.total),
         Part::Fixed(Word::CloseLine),
-        Part::Nothing,
-        Part::Nothing,
-        Part::Nothing,
-        Part::Nothing,
     ]
 }
 
 // Number and place.
 #[tactic(auto, unfolding(sheettext::specs::Sheet::refusal_text))]
-pub fn refusal_line(verdict: Verdict) -> [Part; 8]
+pub fn refusal_line(verdict: Verdict) -> [Part; 3]
     ensures { joined part_text result ≡ refusal_text verdict }
 {
-    let number = refusal::number(verdict);
-    let place = refusal::place(verdict);
     [
-        Part::Number(Word::Refused, number),
-        Part::Number(Word::Space, place),
+        Part::Number(Word::Refused, refusal::number(verdict)),
+        Part::Number(Word::Space, refusal::place(verdict)),
         Part::Fixed(Word::CloseLine),
-        Part::Nothing,
-        Part::Nothing,
-        Part::Nothing,
-        Part::Nothing,
-        Part::Nothing,
     ]
 }
