@@ -14,7 +14,7 @@ use award::Award;
 use output::TextWritten;
 use rows::LaidOut;
 
-// The sheet has a form a line, and the page has columns. An enum, since `write` takes the layout as a value.
+// The sheet has a form a line, and the page has columns. An enum and no trait: `write` takes the layout as a value.
 #[derive(Clone, Copy)]
 pub enum Layout {
     Sheet,
@@ -27,6 +27,9 @@ pub fn write(layout: Layout, award: Award, out: &mut [u8]) -> TextWritten
     ensures value { result ≡ written_of Accepted (layout_text layout award) (length out.old) }
     ensures out_after { out.new ≡ output_after Accepted (layout_text layout award) out.old }
 {
-    let text = LaidOut { layout, award: &award };
+    let text = LaidOut {
+        layout,
+        award: &award,
+    };
     output::write(Ok(()), &text, out).into()
 }

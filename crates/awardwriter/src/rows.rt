@@ -1,9 +1,11 @@
 // An award put into an output, line by line.
-ghost use Rattle.std.specs.Prelude.{◌≡◌, take};
-ghost use Rattle.awardwriter.specs.Layout.{layout_text};
+ghost use Rattle.std.specs.Prelude.{◌≤◌, take};
+ghost use Rattle.lists.specs.Joined.{joined};
+ghost use Rattle.printer.specs.Puts.{Puts};
+ghost use Rattle.awardwriter.specs.Layout.{layout_row, layout_text};
 
 use crate::Layout;
-use award::{Award, Row};
+use award::Award;
 use output::Text;
 use printer::Output;
 
@@ -14,20 +16,21 @@ pub struct LaidOut<'a> {
     pub award: &'a Award,
 }
 
-// The rows that an award's record counts and holds.
-fn listed(award: &Award) -> &[Row]
-    ensures { result.now ≡ take award.now.count award.now.rows }
-{
-    &award.rows[..award.count.min(8)]
-}
-
 impl Text for LaidOut<'_> {
     ghost text = { λ laid. layout_text laid.layout laid.award.now };
 
     fn put(&self, out: &mut Output<'_>) {
         lines::put(out, &self.layout.first_line(self.award));
-        for row in listed(self.award) {
-            lines::put(out, &self.layout.row_line(row));
-        }
+        put_rows(out, self.layout, *self.award);
+    }
+}
+
+// The award is taken by value: behind a reference a proof is not told that a record holds eight rows.
+fn put_rows(out: &mut Output<'_>, layout: Layout, award: Award)
+    requires { out.old.at ≤ 4000 }
+    ensures { Puts out.old (joined (layout_row layout) (take award.count award.rows)) out.new }
+{
+    for row in award.listed() {
+        lines::put(out, &layout.row_line(row));
     }
 }
