@@ -3,7 +3,7 @@ use Prim.Native.Nat.{ℕ, ◌+◌, ◌*◌, ◌^◌, ◌≤◌, ◌<◌}
 use native.Mathlib.Omega.{arith}
 use mathlib.Core.List.{List, map}
 use mathlib.Core.Path.{◌≡◌, sym, ap, subst, ◌∙◌}
-use lib.ListN.{length, get_or, take, drop, length-map, get_or-map}
+use lib.ListN.{length, get_or, drop, length-map, get_or-map}
 use Rattle.std.proofs.Common.{mul-one, mul_assoc, mul-le-mul, pow-suc}
 use Rattle.std.proofs.Math.Nat.{pow-le-pow_right}
 use Rattle.std.proofs.Math.Numerals.{add-one}
@@ -12,7 +12,7 @@ use Rattle.lists.specs.All.{All}
 use Rattle.lists.proofs.All.{all_at}
 use Rattle.lists.proofs.Slices.{drop_next}
 use Rattle.book.specs.declared.Bid.{Bid}
-use Rattle.book.specs.Entries.{BidEntries, bid_entries}
+use Rattle.book.specs.Entries.{bid_entries}
 use Rattle.book.specs.Accepted.{AcceptedBid}
 use Rattle.book.proofs.Records.{no_bid}
 use Rattle.sizes.specs.Sizes.{choices_of}
