@@ -1,2 +1,1 @@
 mod Several
-mod Framed

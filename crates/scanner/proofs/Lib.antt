@@ -1,4 +1,5 @@
 pub mod Bytes
 pub mod Scanned
+pub mod Three
 mod Words
 pub mod Collecting
