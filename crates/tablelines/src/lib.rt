@@ -1,61 +1,54 @@
 // The lines of a sampling table, parsed into a record.
 #![tactic(auto)]
 
-ghost use Rattle.std.specs.Prelude.{◌≤◌, length};
-ghost use Rattle.scanner.specs.Scans.{Scans};
+ghost use Rattle.std.specs.Prelude.{◌≡◌, ◌<◌};
+ghost use Rattle.scanner.specs.Scans.{Scans, ScansAs};
+ghost use Rattle.tabletext.specs.Record.{empty_table, table_record};
 ghost use Rattle.tabletext.specs.TableForm as Form;
-ghost use Rattle.tablelines.specs.Parses.{ParsesTable};
+ghost use Rattle.tablelines.specs.Adding.{with_band};
 
-mod filled;
-
-pub use filled::empty_table;
 use sampling::{Band, Table};
-use scanner::Cursor;
+use scanner::{Reader, Stop};
 
-// A record, and where parsing stands after it. Where it has stopped, the record is of no meaning.
-#[derive(Clone, Copy)]
-pub struct ParsedTable {
-    pub table: Table,
-    pub next: Cursor,
-}
-
-#[derive(Clone, Copy)]
-struct ParsedBand {
-    band: Band,
-    next: Cursor,
-}
-
-fn band(text: &[u8], from: Cursor) -> ParsedBand
-    requires { from.at ≤ length text.now }
-    ensures scans { Scans Form.band_line text.now from result.band result.next }
-    ensures at_in_bounds { result.next.at ≤ length text.now }
+// All zeros.
+pub fn empty_table() -> Table
+    ensures { result ≡ empty_table }
 {
-    let parsed = numberline::line(text, from, b"(band ", 1, b")\n");
-    let next = parsed.next;
-    ParsedBand {
-        band: Band {
-            highest: parsed.first,
-            sample: parsed.second,
-        },
-        next,
+    let band = Band {
+        highest: 0,
+        sample: 0,
+    };
+    Table {
+        count: 0,
+        bands: [band; 16],
     }
+}
+
+// Where the array is full the band is counted and not stored.
+fn add_band(table: &mut Table, band: Band)
+    requires { table.now.count < 18446744073709551615 }
+    ensures { table.new ≡ with_band table.old band }
+{
+    lists::add(&mut table.bands, &mut table.count, band);
+}
+
+fn band(reader: &mut Reader<'_>) -> Result<Band, Stop>
+    ensures { Scans Form.band_line reader.old result reader.new }
+{
+    let [highest, sample] = numberline::line::<2>(reader, b"(band ", b")\n")?;
+    Ok(Band { highest, sample })
 }
 
 // One or more bands, added to the record of none.
-pub fn lines(text: &[u8], from: Cursor) -> ParsedTable
-    requires { from.at ≤ length text.now }
-    ensures { ParsesTable text.now from result.table result.next }
+pub fn lines(reader: &mut Reader<'_>) -> Result<Table, Stop>
+    ensures { ScansAs Form.table table_record reader.old result reader.new }
 {
-    let empty = filled::empty_table();
-    let first = band(text, from);
-    let b = first.band;
-    let mut table = filled::with_band(empty, b);
-    let mut next = first.next;
-    while scanner::begins(text, next, b'(') {
-        let parsed = band(text, next);
-        let b = parsed.band;
-        table = filled::with_band(table, b);
-        next = parsed.next;
+    let mut table = empty_table();
+    let first = band(reader)?;
+    add_band(&mut table, first);
+    while reader.begins(b'(') {
+        let further = band(reader)?;
+        add_band(&mut table, further);
     }
-    ParsedTable { table, next }
+    Ok(table)
 }
