@@ -24,12 +24,12 @@ rows_size : (rows : List Row) (i : ℕ) → i ≤ length rows → length (joined
 rows_size rows i h = numbers_size (take i rows) ∙ ap (λ (n : ℕ). 7 * n) (length-take-le i rows h)
 
 -- a turn puts the numbers of the row at the index, of n rows that there is room for, at their place
-pub next_row : (out : List ℕ) (rows : List Row) (i n : ℕ) (d : Row) (mid exit : List ℕ) (p : ℕ) (numbers : List ℕ)
+pub next_row : (out : List ℕ) (rows : List Row) (i n : ℕ) (d : Row) (mid exit numbers : List ℕ)
     → i < n → n ≤ length rows → 7 * n ≤ length out
     → mid ≡ written out 0 (joined row_numbers (take i rows))
-    → exit ≡ written mid p numbers → numbers ≡ row_numbers (get_or rows i d) → p ≡ 7 * i
+    → exit ≡ written mid (7 * i) numbers → numbers ≡ row_numbers (get_or rows i d)
     → exit ≡ written out 0 (joined row_numbers (take (i + 1) rows))
-next_row out rows i n d mid exit p numbers h k enough before this row at =
+next_row out rows i n d mid exit numbers h k enough before this row =
     let place : 7 * i ≡ 0 + length (joined row_numbers (take i rows)) = omega (arith, rows_size rows i (omega arith)) in
     let end : 7 * i + 7 ≡ 7 * i + length (row_numbers (get_or rows i d)) = omega (arith, row_size (get_or rows i d)) in
     let fits : 0 + length (joined row_numbers (take n rows)) ≤ length out = omega (arith, rows_size rows n k) in

@@ -1,4 +1,5 @@
-use Rattle.std.proofs.Common.{◌≡◌, ◌-◌, ◌≤◌, length, take}
+-- The rows passed are put one after the other.
+use Rattle.std.proofs.Common.{◌≡◌, length, take}
 use Rattle.lists.specs.Joined.{joined}
 use Rattle.printer.specs.Written.{written}
 use Rattle.rownumbers.specs.RowNumbers.{row_numbers}
@@ -6,10 +7,6 @@ use Rattle.rownumbers.proofs.put_rows.Given as goal
 
 abbrev pub invariant-loop-i : goal.invariant-loop-i
 invariant-loop-i l = record {
-  within : l.i ≤ l.award.count;
   held : length l.rows ≡ length l.initial.rows;
-  put : l.rows ≡ written l.initial.rows 0 (joined row_numbers (take l.i l.award.rows));
+  put : l.rows ≡ written l.initial.rows 0 (joined row_numbers (take l.i l.row-items));
 }
-
-abbrev pub decreases-loop-i : goal.decreases-loop-i
-decreases-loop-i l = l.award.count - l.i
