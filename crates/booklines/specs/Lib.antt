@@ -1,1 +1,1 @@
-pub mod Parses
+pub mod Heads

@@ -1,96 +1,77 @@
 // The lines of a bid book, parsed into a record: the demand, and the bids.
 #![tactic(auto)]
 
-ghost use Rattle.std.specs.Prelude.{◌≤◌, length};
-ghost use Rattle.booklines.specs.Parses.{AddingAsks, ParsesDemand, ParsesBidder, ParsesBid, ParsesBids, ParsesLines};
+ghost use Rattle.std.specs.Prelude.{◌≡◌};
+ghost use Rattle.scanner.specs.Scans.{ScansAs};
+ghost use Rattle.booktext.specs.BookForm as Form;
+ghost use Rattle.booktext.specs.BookForm.{bid_of, book_of};
+ghost use Rattle.booktext.specs.Record.{bid_record, book_record};
+ghost use Rattle.bookrecord.specs.Adding.{with_bids};
+ghost use Rattle.booklines.specs.Heads.{bid_started, book_started};
 
 // The segments of a bid.
 mod segments;
 
-use book::{Book, Order};
+use book::{Bid, Book, Order};
 use money::{Blanks, CentsPerBlank};
-use scanner::Cursor;
-use segments::ParsedBid;
-
-// A record, and where parsing stands after it. Where it has stopped, the record is of no meaning.
-#[derive(Clone, Copy)]
-pub struct ParsedBook {
-    pub book: Book,
-    pub next: Cursor,
-}
+use scanner::{Reader, Stop};
 
 // What a bid has before its segments, in a record with none.
-fn bidder(text: &[u8], from: Cursor) -> ParsedBid
-    requires { from.at ≤ length text.now }
-    ensures parses_bidder { ParsesBidder text.now from result.bid result.next }
-    ensures at_in_bounds { result.next.at ≤ length text.now }
+fn bidder(reader: &mut Reader<'_>) -> Result<Bid, Stop>
+    ensures { ScansAs Form.bid_head_lem bid_started reader.old result reader.new }
 {
-    let start = scanner::word(text, from, b"(bid ");
-    let parsed = numberline::spaced(text, start, 1);
-    let next = parsed.next;
-    let mut bid = bookrecord::empty_bid();
-    bid.bidder = parsed.first;
-    let carriage = CentsPerBlank(parsed.second);
-    bid.carriage = carriage;
-    ParsedBid { bid, next }
+    reader.word(b"(bid ")?;
+    let [bidder, carriage] = numberline::spaced::<2>(reader)?;
+    Ok(Bid {
+        bidder,
+        carriage: CentsPerBlank(carriage),
+        ..bookrecord::empty_bid()
+    })
 }
 
-fn bid(text: &[u8], from: Cursor) -> ParsedBid
-    requires { from.at ≤ length text.now }
-    ensures parses_bid { ParsesBid text.now from result.bid result.next }
-    ensures at_in_bounds { result.next.at ≤ length text.now }
+fn bid(reader: &mut Reader<'_>) -> Result<Bid, Stop>
+    ensures { ScansAs Form.bid bid_record reader.old result reader.new }
 {
-    let head = bidder(text, from);
-    let empty = head.bid;
-    let after_head = head.next;
-    let parsed = segments::segments(text, after_head, empty);
-    let bid = parsed.bid;
-    let after_segments = parsed.next;
-    let next = scanner::word(text, after_segments, b")\n");
-    ParsedBid { bid, next }
+    let head = bidder(reader)?;
+    let bid = segments::segments(reader, head)?;
+    reader.word(b")\n")?;
+    Ok(bid)
 }
 
 // One or more bids, added to the record of a head.
-fn bids(text: &[u8], from: Cursor, head: Book) -> ParsedBook
-    requires { AddingAsks text.now from head.count }
-    ensures { ParsesBids text.now from head result.book result.next }
+fn bids(reader: &mut Reader<'_>, head: Book) -> Result<Book, Stop>
+    requires { head.count ≡ 0 }
+    ensures { ScansAs Form.bids (with_bids head) reader.old result reader.new }
 {
-    let first = bid(text, from);
-    let b = first.bid;
-    let mut book = bookrecord::with_bid(head, b);
-    let mut next = first.next;
-    while scanner::begins(text, next, b'(') {
-        let parsed = bid(text, next);
-        let b = parsed.bid;
-        book = bookrecord::with_bid(book, b);
-        next = parsed.next;
+    let mut book = head;
+    let first = bid(reader)?;
+    bookrecord::add_bid(&mut book, first);
+    while reader.begins(b'(') {
+        let further = bid(reader)?;
+        bookrecord::add_bid(&mut book, further);
     }
-    ParsedBook { book, next }
+    Ok(book)
 }
 
 // The line of the demand and the allowance, in the record of a book with no bid.
-fn demand(text: &[u8], from: Cursor) -> ParsedBook
-    requires { from.at ≤ length text.now }
-    ensures parses_demand { ParsesDemand text.now from result.book result.next }
-    ensures at_in_bounds { result.next.at ≤ length text.now }
+fn demand(reader: &mut Reader<'_>) -> Result<Book, Stop>
+    ensures { ScansAs Form.head book_started reader.old result reader.new }
 {
-    let parsed = numberline::line(text, from, b"(demand ", 1, b")\n");
-    let next = parsed.next;
-    let mut book = bookrecord::empty_book();
-    let demand = Blanks(parsed.first);
-    let allowance = Blanks(parsed.second);
-    let order = Order { demand, allowance };
-    book.order = order;
-    ParsedBook { book, next }
+    let [demand, allowance] = numberline::line::<2>(reader, b"(demand ", b")\n")?;
+    let order = Order {
+        demand: Blanks(demand),
+        allowance: Blanks(allowance),
+    };
+    Ok(Book {
+        order,
+        ..bookrecord::empty_book()
+    })
 }
 
 // All lines of a book.
-pub fn lines(text: &[u8], from: Cursor) -> ParsedBook
-    requires { from.at ≤ length text.now }
-    ensures { ParsesLines text.now from result.book result.next }
+pub fn lines(reader: &mut Reader<'_>) -> Result<Book, Stop>
+    ensures { ScansAs Form.book book_record reader.old result reader.new }
 {
-    let line = demand(text, from);
-    let head = line.book;
-    let after = line.next;
-    bids(text, after, head)
+    let head = demand(reader)?;
+    bids(reader, head)
 }

@@ -1,18 +1,27 @@
 -- The word and the numbers, read one after the other.
-use Rattle.forms.specs.Spaced.{numbers_in}
-use Rattle.numberline.specs.ScansLine.{values_of}
+use Rattle.std.proofs.Common.{Ok, Err}
+use Rattle.forms.specs.Bytes.{ascii}
+use Rattle.forms.specs.Spaced.{numbers, numbers_in}
+use Rattle.forms.proofs.Word.{word_laws}
+use Rattle.scanner.proofs.Scanned.{scans_then, scans_stop_as}
 use Rattle.booktext.specs.Record.{bid_record}
-use Rattle.booktext.specs.BookForm.{bid_further}
-use Rattle.booklines.proofs.Parts.{bidder_scanned}
+use Rattle.booktext.specs.BookForm as Form
+use Rattle.booklines.specs.Heads.{bid_started}
 use Rattle.booklines.proofs.bidder.Goals as goal
 
-pub returns-clause-parses_bidder : goal.returns-clause-parses_bidder
+pub returns-in_err-bidder : goal.returns-in_err-bidder
+returns-in_err-bidder c =
+    let from = c.args.reader.now in
+    let next = c.spaced.new.reader in
+    let stop = c.in_err-bidder.field-0.0 in
+    scans_stop_as Form.bid_head_lem from next stop bid_started c.from_residual-in_err-bidder.result c.from_residual-in_err-bidder.ensures.1
+    (scans_then (word_laws (ascii "(bid ")) (numbers 1) from c.word.new.self tt c.in_ok-word.ensures (Err stop) next c.in_err-bidder.ensures)
+
+pub returns : goal.returns
 unfolding bid_record
-returns-clause-parses_bidder c =
-    let w = c.word-start in
-    let n = c.spaced-parsed in
-    let x = numbers_in bid_further (values_of n.result) in (
+returns c =
+    let x = numbers_in 1 c.in_ok-bidder.field-0 in (
       (tt, x),
-      rw c.empty_bid-bid.ensures,
-      bidder_scanned c.args.text.now c.args.from w.result x n.result.next w.ensures.scans n.ensures.scans,
+      rw c.empty_bid.ensures,
+      scans_then (word_laws (ascii "(bid ")) (numbers 1) c.args.reader.now c.word.new.self tt c.in_ok-word.ensures (Ok x) c.spaced.new.reader c.in_ok-bidder.ensures,
     )

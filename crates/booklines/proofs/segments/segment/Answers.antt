@@ -1,24 +1,33 @@
 -- The numbers, the fixed price and the bracket, read one after the other.
-use lib.IntN.{ℤ}
-use mir.Val.{SFits}
-use mir.ValLaws.{to_z-of_z}
-use Rattle.std.proofs.Common.{rules, w64, sym, subst}
+use Rattle.forms.specs.Bytes.{ascii}
+use Rattle.forms.specs.Word.{word}
 use Rattle.forms.specs.Spaced.{numbers_in}
-use Rattle.scanner.specs.Scans.{Scans}
-use Rattle.numberline.specs.ScansLine.{values_of}
+use Rattle.forms.proofs.Signed.{signed_laws}
+use Rattle.scanner.proofs.Scanned.{scans_stop}
+use Rattle.scanner.proofs.Three.{stops_at_second, stops_at_third}
+use Rattle.booktext.specs.BookText.{segment_text}
+use Rattle.booktext.specs.WellFormed.{WellFormedSegment}
 use Rattle.booktext.specs.BookForm as Form
 use Rattle.booktext.specs.BookForm.{to_segment}
-use Rattle.booklines.proofs.Parts.{segment_scanned}
+use Rattle.booktext.proofs.BookForm.{segment_numbers_laws}
 use Rattle.booklines.proofs.segments.segment.Goals as goal
 
-pub returns-clause-scans : goal.returns-clause-scans
-returns-clause-scans c =
-    let l = c.line-parsed in
-    let x = numbers_in 2 (values_of l.result) in
-    let fixed = c.signed-fixed in
-    let close = c.word-next in
-    let fits : SFits w64 fixed.result.value = search rules in
-    subst (λ (z : ℤ). Scans Form.segment c.args.text.now c.args.from (to_segment (x, (z, tt))) close.result)
-    (sym (to_z-of_z w64 fixed.result.value fits))
-    (segment_scanned c.args.text.now c.args.from x l.result.next fixed.result.value fixed.result.next close.result
-    l.ensures.scans_line fixed.ensures.scans close.ensures.scans)
+pub returns-in_err-fixed : goal.returns-in_err-fixed
+returns-in_err-fixed c =
+    let from = c.args.reader.now in
+    let next = c.signed.new.reader in
+    let stop = c.in_err-fixed.field-0.0 in
+    let x = numbers_in 2 c.in_ok-start.field-0 in
+    scans_stop Form.segment from next stop c.from_residual-in_err-fixed.result c.from_residual-in_err-fixed.ensures.1
+    (stops_at_second segment_numbers_laws signed_laws (word (ascii ")")) to_segment WellFormedSegment segment_text from
+    x c.line.new.reader c.in_ok-start.ensures stop next c.in_err-fixed.ensures)
+
+pub returns-in_err-word : goal.returns-in_err-word
+returns-in_err-word c =
+    let from = c.args.reader.now in
+    let next = c.word.new.self in
+    let stop = c.in_err-word.field-0.0 in
+    let x = numbers_in 2 c.in_ok-start.field-0 in
+    scans_stop Form.segment from next stop c.from_residual-in_err-word.result c.from_residual-in_err-word.ensures.1
+    (stops_at_third segment_numbers_laws signed_laws (word (ascii ")")) to_segment WellFormedSegment segment_text from
+    x c.line.new.reader c.in_ok-start.ensures c.in_ok-fixed.fixed c.signed.new.reader c.in_ok-fixed.ensures stop next c.in_err-word.ensures)
