@@ -17,7 +17,7 @@ use Rattle.supply.proofs.Accepted.{nothing_sound}
 use Rattle.choices.proofs.Sums.{adds_starts, adds_ends, starts_small, ends_small}
 use Rattle.choicerecord.specs.declared.Choice.{Choice}
 use Rattle.choicerecord.specs.Sound.{SoundChoice}
-use Rattle.choicerecord.specs.Records.{segment_at, chosen, Exchanged}
+use Rattle.choicerecord.specs.Records.{segment_at, chosen}
 
 pub nothing_chosen : (c : Choice) → c.count ≡ 0 → chosen c ≡ []
 nothing_chosen c e = rw e (latest_none segment0 c.segments)
@@ -81,10 +81,6 @@ module _ (c : Choice) (s : Segment) (held : length c.segments ≡ 8) (new : Soun
   module _ (i : ℕ) (bidder : i < c.count) where
     here : i < length c.segments
     here = omega (arith, c.sound.few)
-
-    pub exchanged : (r : Choice) → r.segments ≡ set c.segments i s → Exchanged c i s r
-    exchanged r stored =
-        record { here = rw stored (get_or-set_same c.segments i s segment0 here); others = λ k e. rw stored (get_or-set_other c.segments i k s segment0 e) }
 
     pub sound_other : (starts ends : ℕ) → starts ≡ c.starts.0 - (segment_at c i).start.0 + s.start.0 → ends ≡ c.ends.0 - (segment_at c i).end.0 + s.end.0
         → SoundChoice c.count (set c.segments i s) starts ends

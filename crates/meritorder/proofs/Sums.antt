@@ -3,11 +3,11 @@ use Prim.Native.Nat.{ℕ, zero, suc, ◌≤◌, ◌<◌}
 use native.Mathlib.Omega.{arith}
 use mathlib.Core.Bool.{Bool, true, false, cond}
 use mathlib.Core.List.{List, [], ◌∷◌, map}
-use mathlib.Core.Path.{◌≡◌, refl, ap}
+use mathlib.Core.Path.{◌≡◌, refl}
 use lib.Dec.{leb}
 use lib.ListN.{length, get_or, take}
 use lib.Seq.{take-suc}
-use Rattle.std.specs.List.{filter, sum}
+use Rattle.std.specs.List.{sum}
 use Rattle.std.proofs.lemmas.List.{map-append}
 use Rattle.std.proofs.lemmas.List.Elements.{filter-append}
 use Rattle.std.proofs.lemmas.List.Sums.{sum_by-append}
@@ -35,15 +35,8 @@ widths_cheaper unit ss zero h = rw (latest_none segment0 ss)
 widths_cheaper unit ss (suc n) h =
     let further : n < length ss = omega arith in
     let last = get_or ss n segment0 in
-    let counts = λ (s : Segment). leb s.unit.0 unit in
-    let first = take n ss in
-    let one = last ∷ [] in
-    let e = ap (widths unit) (take-suc ss n segment0 further) in
-    let f = ap (λ l. sum (map (λ (s : Segment). width s) l)) (filter-append counts first one) in
-    let g = ap sum (map-append (λ (s : Segment). width s) (filter counts first) (filter counts one)) in
-    let h' = sum_by-append (λ (n : ℕ). n) (map (λ (s : Segment). width s) (filter counts first)) (map (λ (s : Segment). width s) (filter counts one)) in
-    rw (latest_next segment0 ss n)
-    (omega (arith, e, f, g, h', widths_cheaper unit ss n (omega arith), one_width unit last))
+    rw (take-suc ss n segment0 further, filter-append, map-append, sum_by-append (λ (w : ℕ). w), latest_next segment0 ss n)
+    (omega (arith, widths_cheaper unit ss n (omega arith), one_width unit last))
 
 -- It is no more than the ends add up to.
 
