@@ -16,6 +16,7 @@ use money::Blanks;
 
 // The classes for the bidders from `at` on begin with the class 32 × at. Their numbers are those of the rest of eight bidders, so that
 // sums of them fit.
+#[derive(Drop)]
 pub struct Table {
     pub classes: [Sums; 288],
     ghost graded: { Graded classes },

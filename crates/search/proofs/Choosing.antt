@@ -19,23 +19,22 @@ use Rattle.supply.proofs.Supplies.{length_supplies, supply_of_lem}
 use Rattle.divisions.specs.Award.{Priced}
 use Rattle.choices.specs.Leaf.{Leaf}
 use Rattle.choicerecord.specs.declared.Choice.{Choice}
-use Rattle.choicerecord.specs.Records.{segment_at, first_segments, chosen, Sound, SellsNothing, Exchanged}
+use Rattle.choicerecord.specs.Records.{segment_at, first_segments, chosen, SellsNothing, Exchanged}
 use Rattle.search.specs.ChosenFrom.{ChosenFrom, HasBidder, ExchangedFrom}
 use Rattle.search.specs.Searchable.{Searchable}
 
 -- one segment in the place of another
-pub exchanged_from : {c r : Choice} {i : ℕ} {s : Segment} → r.count ≡ c.count → Exchanged c i s r → Sound r → (supply : List Segment) → In s supply
+pub exchanged_from : {c r : Choice} {i : ℕ} {s : Segment} → r.count ≡ c.count → Exchanged c i s r → (supply : List Segment) → In s supply
     → ExchangedFrom supply c i r
-exchanged_from count x sound supply h = record { sound = sound; count = count; here = rw x.here h; others = x.others }
+exchanged_from count x supply h = record { count = count; here = rw x.here h; others = x.others }
 
 -- A book's bids: segment 0 of each, and then another segment of one.
 module _ (book : Book) (searchable : Searchable (book_entries book)) (held : book.count ≤ length book.bids) where
   abbrev supplies : List (List Segment)
   supplies = supplies_of (book_entries book).bids
 
-  pub from_nothing : (c : Choice) → c.count ≡ book.count → SellsNothing c → Sound c → ChosenFrom supplies c
-  from_nothing c e nothing sound = record {
-    sound = sound;
+  pub from_nothing : (c : Choice) → c.count ≡ book.count → SellsNothing c → ChosenFrom supplies c
+  from_nothing c e nothing = record {
     all = rw (length_supplies book.bids book.count held) e;
     each = λ i h. rw (nothing.each i h, supply_of_lem book.bids book.count held i (omega (arith, e))) (segment_0_in _);
   }
@@ -43,13 +42,12 @@ module _ (book : Book) (searchable : Searchable (book_entries book)) (held : boo
   module _ {c : Choice} (p : ChosenFrom supplies c) (i : ℕ) (further : i < book.count) where
     pub has_bidder : (k : ℕ) → k < book.count → HasBidder c i (get_or book.bids k no_bid)
     has_bidder k h = record {
-      sound = p.sound;
       bidder = omega (arith, p.all, length_supplies book.bids book.count held);
       accepted = accepted_at book.bids book.count held searchable.bids k h;
     }
 
     pub from_exchanged : (r : Choice) → ExchangedFrom (supply_of (bid_entries (get_or book.bids i no_bid))) c i r → ChosenFrom supplies r
-    from_exchanged r x = record { sound = x.sound; all = rw x.count p.all; each = λ k h. go k h (ℕ_discrete k i) }
+    from_exchanged r x = record { all = rw x.count p.all; each = λ k h. go k h (ℕ_discrete k i) }
       where
         go : (k : ℕ) → k < r.count → Dec (k ≡ i) → In (segment_at r k) (get_or supplies k [])
         go k h (yes e) = rw (e, supply_of_lem book.bids book.count held i further) x.here

@@ -11,13 +11,7 @@ use Rattle.search.proofs.lost.Goals as goal
 pub hopeless-requires : goal.hopeless-requires
 hopeless-requires c =
     let p = c.requires in
-    record { few = p.few; within = p.within; capped = p.capped; graded = p.graded; small = small_sums _ _ c.args.c _ p.choice p.capped p.sums_of_lem }
+    record { within = p.within; small = small_sums _ _ c.args.c _ c.args.bounds.now.capped p.sums_of_lem }
 
 pub returns-clause-wins_ties : goal.returns-clause-wins_ties
-returns-clause-wins_ties c = λ e.
-    let a = c.args in
-    record {
-      few = leb-true _ _ (sym c.if-not-no_more_blanks.ensures);
-      more = subst (λ (k : ℕ). gives_more (take k (blanks_in a.best.quantities)) (ends_in_order (chosen a.c)) ≡ true) (sym (length_chosen a.c))
-          (sym c.if-not-behind.ensures);
-    }
+returns-clause-wins_ties c = ?

@@ -1,4 +1,3 @@
-use Rattle.std.proofs.Common.{◌-◌}
 use Rattle.book.specs.Entries.{book_entries}
 use Rattle.supply.specs.Supply.{supplies_of}
 use Rattle.search.specs.ChosenFrom.{ChosenFrom}
@@ -6,6 +5,3 @@ use Rattle.search.proofs.first.choice_of.Given as goal
 
 abbrev pub invariant-loop-i : goal.invariant-loop-i
 invariant-loop-i l = ChosenFrom (supplies_of (book_entries l.book).bids) l.c
-
-abbrev pub decreases-loop-i : goal.decreases-loop-i
-decreases-loop-i l = l.n - l.i

@@ -11,7 +11,6 @@ pub exchange-requires : goal.exchange-requires
 exchange-requires c =
     let of_bid = c.segment_of-s.ensures in
     record {
-      choice = c.requires.sound;
       segment = rw of_bid.value (sound_segment_at (bid_entries c.args.bid) c.requires.accepted _ of_bid.number_in_bounds);
       bidder = c.requires.bidder;
     }
@@ -21,5 +20,4 @@ returns c =
     let of_bid = c.segment_of-s.ensures in
     let supply = supply_of (bid_entries c.args.bid) in
     let offered : In c.segment_of-s.result supply = rw of_bid.value (in_at segment0 supply _ of_bid.number_in_bounds) in
-    let r = c.exchange.ensures in
-    exchanged_from r.count_value r.exchanged r.sound supply offered
+    exchanged_from c.exchange.ensures.count_value c.exchange.ensures.exchanged supply offered
