@@ -30,9 +30,9 @@ fn with_number(c: Choice, i: usize, bid: Bid, number: usize) -> Choice
 }
 
 // The choice of the segments with these numbers.
-fn choice_of(book: &Book, numbers: [usize; 8]) -> Choice
-    requires { Searchable (book_entries book.now) }
-    ensures { ChosenFrom (supplies_of (book_entries book.now).bids) result }
+fn choice_of(book: Book, numbers: [usize; 8]) -> Choice
+    requires { Searchable (book_entries book) }
+    ensures { ChosenFrom (supplies_of (book_entries book).bids) result }
 {
     let mut c = Choice::nothing_sold(book.count);
     for i in 0..book.count {
@@ -43,7 +43,12 @@ fn choice_of(book: &Book, numbers: [usize; 8]) -> Choice
 }
 
 // The best of a division, if there is one, and of the choices that differ from a choice in the segment of the bidder with index `at`.
-fn first_at(book: &Book, c: Choice, at: usize, best: Option<PricedDivision>) -> Option<PricedDivision>
+fn first_at(
+    book: &Book,
+    c: Choice,
+    at: usize,
+    best: Option<PricedDivision>,
+) -> Option<PricedDivision>
     requires { ImprovableAt book.now c at best }
     ensures { Started book.now.order (supplies_of (book_entries book.now).bids) (found book.now.count result) }
 {
@@ -62,7 +67,7 @@ fn first(book: &Book, numbers: [usize; 8], best: Option<PricedDivision>) -> Opti
     requires { StartedWith book.now best }
     ensures { Started book.now.order (supplies_of (book_entries book.now).bids) (found book.now.count result) }
 {
-    let c = choice_of(book, numbers);
+    let c = choice_of(*book, numbers);
     let mut so_far = best;
     for at in 0..book.count {
         so_far = first_at(book, c, at, so_far);

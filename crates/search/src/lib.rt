@@ -79,7 +79,12 @@ impl Search<'_> {
     // A segment is chosen for the next bidder, each in turn from its last to segment 0, and the search
     // calls itself for the bidders after it, unless nothing better can be found there; with a segment of
     // the last the choice is complete. It returns the best division so far.
-    fn search(&self, c: Choice, charged: Charges, best: Option<PricedDivision>) -> Option<PricedDivision>
+    fn search(
+        &self,
+        c: Choice,
+        charged: Charges,
+        best: Option<PricedDivision>,
+    ) -> Option<PricedDivision>
         requires bounding { Bounding self.now.book.now self.now.prices self.now.table.now.classes }
         requires searching { Searching self.now.book.now self.now.prices c charged }
         ensures { found self.now.book.now.count result ≡ search self.now.book.now.order (drop c.count (supplies_of (book_entries self.now.book.now).bids)) (chosen c) (found self.now.book.now.count best) }
@@ -99,9 +104,9 @@ impl Search<'_> {
         let at = c.count;
         let left = n - at;
         let bid = self.book.bids[at];
-        let most = bid.count;
+        let count = bid.count + 1;
         let mut so_far = best;
-        for j in (0..=most).rev() {
+        for j in (0..count).rev() {
             let s = supply::segment_of(bid, j);
             let more = sums + charges::charged(s, order, self.prices);
             if !bounds.hopeless(at + 1, more, false, so_far) {
@@ -128,10 +133,7 @@ pub fn best_division(book: Book) -> Option<PricedDivision>
     if book.count == 0 {
         return leaf(book.order, nothing, None);
     }
-    let Beginning {
-        prices,
-        best,
-    } = first::begin(&book);
+    let Beginning { prices, best } = first::begin(&book);
     let none = Sums {
         low: Blanks(0),
         high: Blanks(0),

@@ -12,18 +12,18 @@ held book searchable eight = omega (arith, searchable.few)
 
 pub loop-i-init : goal.loop-i-init
 loop-i-init c =
-    let b = c.args.book.now in
+    let b = c.args.book in
     let nothing = c.nothing_sold-c.ensures in
     from_nothing b c.requires (held b c.requires (search (length_held, c.well_formed))) c.nothing_sold-c.result nothing.count_value nothing.sells_nothing
 
 pub with_number-c-requires : goal.with_number-c-requires
 with_number-c-requires c =
-    let b = c.args.book.now in
+    let b = c.args.book in
     let i = c.loop-i in
     has_bidder b c.requires (held b c.requires (search (length_held, c.well_formed))) i.invariant i.i c.loop-i-test.true _ (omega arith)
 
 pub loop-i-preserved : goal.loop-i-preserved
 loop-i-preserved c =
-    let b = c.args.book.now in
+    let b = c.args.book in
     let i = c.loop-i in
     from_exchanged b c.requires (held b c.requires (search (length_held, c.well_formed))) i.invariant i.i c.loop-i-test.true c.with_number-c.result c.with_number-c.ensures

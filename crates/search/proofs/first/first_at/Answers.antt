@@ -1,6 +1,5 @@
 -- Each choice that is compared has a segment of every bidder, so what is kept is of the book.
 use Rattle.std.proofs.Common.{◌≡◌, ℕ, ◌≤◌, Option, length, get_or, ◌∙◌, arith}
-use Rattle.lists.proofs.Slices.{length_held}
 use Rattle.book.specs.declared.Book.{Book}
 use Rattle.book.specs.Entries.{bid_entries, book_entries}
 use Rattle.book.proofs.Records.{no_bid}
@@ -38,16 +37,16 @@ module _ {book : Book} {c : Choice} {at : ℕ} {best : Option PricedDivision} (p
       rw best (started_leaf book.order (supplies_of (book_entries book).bids) (chosen other) (found book.count so_far) (complete_leaf from book.order) started)
 
 pub with_number-other-requires : goal.with_number-other-requires
-with_number-other-requires c = asked c.requires (search (length_held, c.well_formed))
+with_number-other-requires c = asked c.requires (omega arith)
 
 pub overflow_step-number : goal.overflow_step-number
 overflow_step-number c =
-    let a = asked c.requires (search (length_held, c.well_formed)) in
+    let a = asked c.requires (omega arith) in
     omega (arith, a.accepted.count_high)
 
 pub loop-number-preserved : goal.loop-number-preserved
 loop-number-preserved c =
-    next c.requires (search (length_held, c.well_formed)) _ c.with_number-other.ensures _ _ c.leaf-so_far.ensures c.loop-number.invariant
+    next c.requires (omega arith) _ c.with_number-other.ensures _ _ c.leaf-so_far.ensures c.loop-number.invariant
 
 pub returns-2 : goal.returns-2
-returns-2 c = next c.requires (search (length_held, c.well_formed)) _ c.with_number-other.ensures _ _ c.leaf-so_far.ensures c.loop-number.invariant
+returns-2 c = next c.requires (omega arith) _ c.with_number-other.ensures _ _ c.leaf-so_far.ensures c.loop-number.invariant
