@@ -8,7 +8,8 @@ ghost use Rattle.comparison.specs.Records.{blanks_in, division_in, found};
 
 use money::{Blanks, Cents};
 
-// A division: its cost, how many blanks it buys, and a quantity for each bidder in book order.
+// A division: its cost, how many blanks it buys, and a quantity for each bidder in book order. Nothing is allocated, so the
+// quantities are an array, of which the first n count where there are n bidders.
 #[derive(Clone, Copy)]
 pub struct PricedDivision {
     pub cost: Cents,

@@ -61,8 +61,8 @@ fn extra(c: Choice, i: usize, left: Blanks) -> Blanks
     Blanks(width(s).min(left.0.saturating_sub(earlier.0)))
 }
 
-// The best quantities within a choice that fits, as many as the demand, or as the starts where these
-// pass it: from the last bidder to the first, each gets its start and its extra of what is left.
+// Quantities within a choice, as many as the demand, or as the starts where these pass it: from the last
+// bidder to the first, each gets its start and its extra of what is left. Where the choice fits they are the best.
 pub fn fill(c: Choice, order: Order) -> PricedDivision
     ensures { division_in c.count result ≡ filled order (chosen c) }
 {
