@@ -5,10 +5,13 @@ use mathlib.Core.List.{List}
 use mathlib.Core.Path.{◌≡◌, refl}
 use lib.Dec.{leb}
 use lib.ListN.{length}
+use Rattle.std.specs.Prelude.{Result, Ok, Err}
 use Rattle.refusal.specs.Checks.{when_accepted}
+use Rattle.refusal.specs.declared.Refusal.{Refusal}
 use Rattle.refusal.specs.declared.Rule.TheVariants.{TextLength, Shape}
 use Rattle.forms.specs.Shape.{answer}
 use Rattle.textreading.proofs.Kind.{Kind}
+use Rattle.textreading.proofs.Outcome.{answer_accepted, answer_refused}
 use Rattle.sampling.specs.declared.Table.{Table}
 use Rattle.sampling.specs.Entries.{TableEntries, table_entries}
 use Rattle.sampling.specs.Rules.{table_verdict}
@@ -18,7 +21,7 @@ use Rattle.tabletext.specs.Record.{table_record, empty_table}
 use Rattle.tabletext.specs.TableForm.{table}
 use Rattle.tabletext.proofs.TableForm.{table_laws, table_reading}
 use Rattle.tablereader.specs.declared.TableRead.{TableRead}
-use Rattle.tablereader.specs.Reading.{refused_table, table_answer, read_table_of}
+use Rattle.tablereader.specs.Reading.{refused_table, table_answer, read_table_of, table_of_text, table_told}
 
 pub answer_is : (t : TableEntries)
     → let v = table_verdict (table_entries (table_record t)) in table_answer t ≡ record { verdict = v; table = when_accepted v (table_record t) empty_table }
@@ -49,3 +52,8 @@ tables = record {
   read_of = read_table_of;
   read_is = read_is;
 }
+
+-- the answer is told by its outcome
+pub told_back : (t : List ℕ) (read : Result Table Refusal) → read ≡ table_of_text t → table_told read ≡ read_table_of t
+told_back t (Ok table) e = answer_accepted tables t table e
+told_back t (Err refusal) e = answer_refused tables t refusal e

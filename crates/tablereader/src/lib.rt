@@ -2,11 +2,11 @@
 #![tactic(auto)]
 
 ghost use Rattle.std.specs.Prelude.{◌≡◌};
-ghost use Rattle.tablereader.specs.Reading.{refused_table, read_table_of};
+ghost use Rattle.tablereader.specs.Reading.{read_table_of, table_of_text, table_told};
 
-use refusal::{Rule, Verdict};
+use refusal::{Refusal, Rule, Verdict};
 use sampling::Table;
-use scanner::Cursor;
+use scanner::Reader;
 
 // The table of a text, or all zeros beside a refusal.
 #[derive(Clone, Copy)]
@@ -15,40 +15,42 @@ pub struct TableRead {
     pub table: Table,
 }
 
-fn refused(rule: Rule, place: u64) -> TableRead
-    ensures { result ≡ refused_table rule place }
-{
-    TableRead {
-        verdict: Err(rule.at(place)),
-        table: tablelines::empty_table(),
+// Beside a refusal the table is all zeros.
+impl From<Result<Table, Refusal>> for TableRead {
+    ghost from_gives = { λ read answer. answer ≡ table_told read };
+
+    fn from(read: Result<Table, Refusal>) -> TableRead {
+        match read {
+            Ok(table) => TableRead {
+                verdict: Ok(()),
+                table,
+            },
+            Err(refusal) => TableRead {
+                verdict: Err(refusal),
+                table: tablelines::empty_table(),
+            },
+        }
     }
 }
 
-// Reads a table from any bytes. The whole text is parsed before rule 12 is looked at.
+// The table of a text, or why it is refused. The whole text is parsed before rule 12 is looked at.
+pub fn table(text: &[u8]) -> Result<Table, Refusal>
+    ensures { result ≡ table_of_text text.now }
+{
+    let fits = text.len() <= 4_096;
+    Rule::TextLength.unless(fits, 4_096)?;
+    let mut reader = Reader::new(text);
+    let table = tablelines::lines(&mut reader)?;
+    let ended = reader.at == text.len();
+    Rule::Shape.unless(ended, reader.at as u64)?;
+    tablerules::check(table)?;
+    Ok(table)
+}
+
+// Reads a table from any bytes.
+#[tactic(auto, using(crate::proofs::Answers::told_back))]
 pub fn read(text: &[u8]) -> TableRead
     ensures { result ≡ read_table_of text.now }
 {
-    let too_long = 4_096 < text.len();
-    if too_long {
-        return refused(Rule::TextLength, 4_096);
-    }
-    let start = Cursor {
-        at: 0,
-        stopped: false,
-    };
-    let parsed = tablelines::lines(text, start);
-    let next = parsed.next;
-    if next.stopped {
-        return refused(Rule::Shape, next.at as u64);
-    }
-    let goes_on = next.at < text.len();
-    if goes_on {
-        return refused(Rule::Shape, next.at as u64);
-    }
-    let table = parsed.table;
-    let verdict = tablerules::check(table);
-    if let Err(refusal) = verdict {
-        return refused(refusal.rule, refusal.place);
-    }
-    TableRead { verdict, table }
+    TableRead::from(table(text))
 }
