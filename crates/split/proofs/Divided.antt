@@ -7,7 +7,7 @@ use mathlib.Core.Path.{◌≡◌, refl}
 use Rattle.std.specs.Prelude.{Ok, Err}
 use Rattle.refusal.specs.Checks.{when_accepted}
 use Rattle.refusal.specs.Verdict.{Verdict}
-use Rattle.refusal.specs.Verdict.{Accepted, Refused}
+use Rattle.refusal.specs.Verdict.{Accepted}
 use Rattle.refusal.proofs.Firsts.{all_passed, test_holds, refused_not}
 use Rattle.book.specs.Entries.{BidEntries, BookEntries}
 use Rattle.book.specs.Rules.{book_verdict}

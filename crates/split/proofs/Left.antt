@@ -3,10 +3,11 @@ use Prim.Native.Nat.{ℕ, ◌+◌, ◌*◌, ◌≤◌, ◌<◌}
 use native.Mathlib.Nat.{add-zero, zero-add, add_assoc}
 use native.Mathlib.Omega.{arith}
 use mathlib.Core.Bool.{true, false}
-use mathlib.Core.List.{List, [], ◌∷◌}
-use mathlib.Core.Path.{◌≡◌, refl, sym, ap, ◌∙◌}
+use mathlib.Core.List.{List, [], ◌∷◌, map}
+use mathlib.Core.Path.{◌≡◌, refl, sym, ap, subst, ◌∙◌}
 use lib.IntN.{ℤ, pos, nat_abs, ◌+ℤ◌, +ℤ_idl, +ℤ_idr, +ℤ_assoc}
-use lib.ListN.{length, get_or, drop, drop_of_length-le}
+use lib.ListN.{length, get_or, take, drop, drop_of_length-le, length-map, get_or-map}
+use lib.Seq.{length-take-le}
 use mir.Syntax.{w64}
 use mir.Val.{SFits}
 use Rattle.lists.proofs.Slices.{drop_next}
@@ -15,30 +16,29 @@ use Rattle.book.specs.declared.Bid.{Bid}
 use Rattle.book.specs.declared.Book.{Book}
 use Rattle.book.specs.Entries.{BidEntries, bid_entries, book_entries}
 use Rattle.book.specs.Rules.{book_verdict}
+use Rattle.book.specs.Accepted.{AcceptedBid}
 use Rattle.book.proofs.Records.{no_bid}
-use Rattle.book.proofs.Bids.{entries_from, entries_next, entries_done}
+use Rattle.book.proofs.Accepted.{few_bids, all_accepted}
+use Rattle.lists.proofs.All.{all_at}
 use Rattle.refusal.specs.declared.Rule.TheVariants.{SplitQuantity}
 use Rattle.refusal.specs.Verdict.{Accepted, Refused}
 use Rattle.supply.specs.Supply.{supply_of, supplies_of, offers, price_at}
 use Rattle.supply.specs.Allocation.{bought, cost_of}
-use Rattle.supply.specs.Meets.{meets}
 use Rattle.supply.specs.Sound.{most_blanks}
 use Rattle.supply.proofs.Accepted.{most_cents, Small}
-use Rattle.split.specs.Split.{quantities_verdict, split_of, refused_split}
-use Rattle.split.proofs.Steps.{refused_split_lem, book_passed, split_done, split_long, split_short, split_off, split_next, cost_next, total_next}
+use Rattle.split.specs.Split.{quantities_verdict}
+use Rattle.split.proofs.Steps.{split_done, split_long, split_short, split_off, split_next, cost_next, total_next}
 
 -- `price` and `sum` are those of the first i quantities
-pub record Left (book : Book) (rs : List ℕ) (price : ℤ) (sum i : ℕ) : Type 0 where
-  pub within : i ≤ book.count
+pub record Left (bs : List Bid) (rs : List ℕ) (price : ℤ) (sum i : ℕ) : Type 0 where
   pub sum_size : sum ≤ most_blanks * i
   pub price_size : nat_abs price ≤ most_cents * i
-  pub verdict : quantities_verdict 2 (book_entries book).bids rs ≡ quantities_verdict (2 + i) (entries_from i book.count book.bids) (drop i rs)
-  pub cost : cost_of (supplies_of (book_entries book).bids) rs ≡ price +ℤ cost_of (supplies_of (entries_from i book.count book.bids)) (drop i rs)
+  pub verdict : quantities_verdict 2 (map bid_entries bs) rs ≡ quantities_verdict (2 + i) (map bid_entries (drop i bs)) (drop i rs)
+  pub cost : cost_of (supplies_of (map bid_entries bs)) rs ≡ price +ℤ cost_of (supplies_of (map bid_entries (drop i bs))) (drop i rs)
   pub blanks : bought rs ≡ sum + bought (drop i rs)
 
-pub left_all : (book : Book) (rs : List ℕ) → Left book rs (pos 0) 0 0
-left_all book rs = record {
-  within = omega arith;
+pub left_all : (bs : List Bid) (rs : List ℕ) → Left bs rs (pos 0) 0 0
+left_all bs rs = record {
   sum_size = omega arith;
   price_size = omega arith;
   verdict = refl;
@@ -46,24 +46,20 @@ left_all book rs = record {
   blanks = sym (zero-add _);
 }
 
-module _ {book : Book} {rs : List ℕ} {price : ℤ} {sum i : ℕ} (left : Left book rs price sum i) (accepted : book_verdict (book_entries book) ≡ Accepted) where
-  stopped : (place : ℕ) → quantities_verdict 2 (book_entries book).bids rs ≡ Refused SplitQuantity place
-      → refused_split (Refused SplitQuantity place) ≡ split_of (book_entries book) rs
-  stopped place e = refused_split_lem (book_entries book) rs SplitQuantity place (book_passed (book_entries book) rs accepted ∙ e)
-
-  module _ (more : i < book.count) (held : book.count ≤ length book.bids) where
+module _ {bs : List Bid} {rs : List ℕ} {price : ℤ} {sum i : ℕ} (left : Left bs rs price sum i) where
+  module _ (more : i < length bs) where
     abbrev bid : Bid
-    bid = get_or book.bids i no_bid
+    bid = get_or bs i no_bid
 
     abbrev later : List BidEntries
-    later = entries_from (i + 1) book.count book.bids
+    later = map bid_entries (drop (i + 1) bs)
 
-    here : entries_from i book.count book.bids ≡ bid_entries bid ∷ later
-    here = entries_next book.bids i book.count more held
+    here : map bid_entries (drop i bs) ≡ bid_entries bid ∷ later
+    here = ap (map bid_entries) (drop_next bs i no_bid more)
 
     -- no quantity for this bid
-    pub missing : length rs ≤ i → refused_split (Refused SplitQuantity (2 + i)) ≡ split_of (book_entries book) rs
-    missing h = stopped (2 + i) (left.verdict ∙ split_short (2 + i) _ (drop i rs) (bid_entries bid) later here (drop_of_length-le rs h))
+    pub missing : length rs ≤ i → quantities_verdict 2 (map bid_entries bs) rs ≡ Refused SplitQuantity (2 + i)
+    missing h = left.verdict ∙ split_short (2 + i) _ (drop i rs) (bid_entries bid) later here (drop_of_length-le rs h)
 
     module _ (some : i < length rs) where
       abbrev r : ℕ
@@ -73,8 +69,8 @@ module _ {book : Book} {rs : List ℕ} {price : ℤ} {sum i : ℕ} (left : Left 
       this = drop_next rs i 0 some
 
       -- its quantity is not on offer
-      pub off : offers (supply_of (bid_entries bid)) r ≡ false → refused_split (Refused SplitQuantity (2 + i)) ≡ split_of (book_entries book) rs
-      off e = stopped (2 + i) (left.verdict ∙ split_off (2 + i) _ (drop i rs) (bid_entries bid) later here r (drop (i + 1) rs) this e)
+      pub off : offers (supply_of (bid_entries bid)) r ≡ false → quantities_verdict 2 (map bid_entries bs) rs ≡ Refused SplitQuantity (2 + i)
+      off e = left.verdict ∙ split_off (2 + i) _ (drop i rs) (bid_entries bid) later here r (drop (i + 1) rs) this e
 
       -- its quantity and price are added
       module _ (small : Small (supply_of (bid_entries bid)) r) (p : ℤ) (is-price : price_at (supply_of (bid_entries bid)) r ≡ p) where
@@ -84,17 +80,16 @@ module _ {book : Book} {rs : List ℕ} {price : ℤ} {sum i : ℕ} (left : Left 
         pub sum_fits : i < 8 → SFits w64 (price +ℤ p)
         sum_fits h = small_fits (price +ℤ p) (omega (arith, sum_small))
 
-        next_cost : cost_of (supplies_of (book_entries book).bids) rs ≡ (price +ℤ p) +ℤ cost_of (supplies_of later) (drop (i + 1) rs)
+        next_cost : cost_of (supplies_of (map bid_entries bs)) rs ≡ (price +ℤ p) +ℤ cost_of (supplies_of later) (drop (i + 1) rs)
         next_cost =
             left.cost
             ∙ ap (λ (z : ℤ). price +ℤ z) (cost_next (2 + i) _ (drop i rs) (bid_entries bid) later here r (drop (i + 1) rs) this)
             ∙ ap (λ (z : ℤ). price +ℤ (z +ℤ cost_of (supplies_of later) (drop (i + 1) rs))) is-price
             ∙ sym (+ℤ_assoc price p (cost_of (supplies_of later) (drop (i + 1) rs)))
 
-        pub left_next : offers (supply_of (bid_entries bid)) r ≡ true → (price' : ℤ) → price' ≡ price +ℤ p
-            → Left book rs price' (sum + r) (i + 1)
-        left_next e price' f = record {
-          within = omega arith;
+        pub left_next : offers (supply_of (bid_entries bid)) r ≡ true → (price' : ℤ) → price' ≡ price +ℤ p → (sum' : ℕ) → sum' ≡ sum + r
+            → Left bs rs price' sum' (i + 1)
+        left_next e price' f sum' g = record {
           sum_size = omega (arith, left.sum_size, small.quantity);
           price_size = rw f sum_small;
           verdict =
@@ -105,21 +100,39 @@ module _ {book : Book} {rs : List ℕ} {price : ℤ} {sum i : ℕ} (left : Left 
           blanks = omega (arith, left.blanks, total_next (2 + i) _ (drop i rs) (bid_entries bid) later here r (drop (i + 1) rs) this);
         }
 
-  module _ (all : book.count ≤ i) where
-    none : entries_from i book.count book.bids ≡ []
-    none = entries_done book.bids i book.count left.within all
+  module _ (all : length bs ≤ i) where
+    none : map bid_entries (drop i bs) ≡ []
+    none = ap (map bid_entries) (drop_of_length-le bs all)
 
     -- more quantities than bids
-    pub too_long : i < length rs → refused_split (Refused SplitQuantity (2 + i)) ≡ split_of (book_entries book) rs
-    too_long h = stopped (2 + i) (left.verdict ∙ split_long (2 + i) _ (drop i rs) (get_or rs i 0) (drop (i + 1) rs) none (drop_next rs i 0 h))
+    pub too_long : i < length rs → quantities_verdict 2 (map bid_entries bs) rs ≡ Refused SplitQuantity (2 + i)
+    too_long h = left.verdict ∙ split_long (2 + i) _ (drop i rs) (get_or rs i 0) (drop (i + 1) rs) none (drop_next rs i 0 h)
 
     -- as many quantities as bids
-    pub complete : length rs ≤ i
-        → record { verdict = Accepted; price = record { 0 = price }; meets = meets book.order sum } ≡ split_of (book_entries book) rs
-    unfolding cost_of bought split_of
-    complete h =
-        let over = drop_of_length-le rs h in
-        let passed = book_passed (book_entries book) rs accepted ∙ left.verdict ∙ split_done (2 + i) _ (drop i rs) none over in
-        let cost = left.cost ∙ ap (λ (bs : List BidEntries). price +ℤ cost_of (supplies_of bs) (drop i rs)) none ∙ +ℤ_idr price in
-        let blanks = left.blanks ∙ ap (λ (l : List ℕ). sum + bought l) over ∙ add-zero sum in
-        rw passed (cc (cost, blanks))
+    module _ (h : length rs ≤ i) where
+      over : drop i rs ≡ []
+      over = drop_of_length-le rs h
+
+      pub complete : quantities_verdict 2 (map bid_entries bs) rs ≡ Accepted
+      complete = left.verdict ∙ split_done (2 + i) _ (drop i rs) none over
+
+      pub whole_cost : cost_of (supplies_of (map bid_entries bs)) rs ≡ price
+      unfolding cost_of
+      whole_cost = left.cost ∙ ap (λ (ds : List BidEntries). price +ℤ cost_of (supplies_of ds) (drop i rs)) none ∙ +ℤ_idr price
+
+      pub whole_sum : bought rs ≡ sum
+      unfolding bought
+      whole_sum = left.blanks ∙ ap (λ (l : List ℕ). sum + bought l) over ∙ add-zero sum
+
+-- The bids that an accepted record lists.
+module _ (book : Book) (accepted : book_verdict (book_entries book) ≡ Accepted) (listed : List Bid) (are : listed ≡ take book.count book.bids) where
+  pub few_listed : length book.bids ≡ 8 → (length listed ≡ book.count) × (book.count ≤ 8)
+  few_listed held =
+      let few = few_bids book accepted held in
+      (ap length are ∙ length-take-le book.count book.bids (omega arith), few)
+
+  pub accepted_listed : (i : ℕ) → i < length listed → AcceptedBid (bid_entries (get_or listed i no_bid))
+  accepted_listed i h =
+      let all = rw (← are) at (all_accepted (book_entries book) accepted) in
+      let within : i < length (map bid_entries listed) = omega (arith, length-map listed bid_entries) in
+      subst AcceptedBid (get_or-map bid_entries listed i no_bid) (all_at AcceptedBid (bid_entries no_bid) (map bid_entries listed) all i within)

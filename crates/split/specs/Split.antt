@@ -1,11 +1,12 @@
 -- A proposed split: document 01, sections "Price and allocation" and "What is turned down".
-use Rattle.std.specs.Prelude.{ℕ, ◌+◌, false, List, [], ◌∷◌, pos}
+use Rattle.std.specs.Prelude.{ℕ, ◌+◌, Bool, false, List, [], ◌∷◌, pos, Result, Ok, Err}
+use Rattle.money.specs.declared.Cents.{Cents}
 use Rattle.book.specs.Entries.{BidEntries, BookEntries}
 use Rattle.book.specs.Rules.{book_verdict}
 use Rattle.refusal.specs.Checks.{unless, first_of, when_accepted}
 use Rattle.refusal.specs.declared.Rule.TheVariants.{SplitQuantity}
-use Rattle.refusal.specs.Verdict.{Verdict}
-use Rattle.refusal.specs.Verdict.{Accepted, Refused}
+use Rattle.refusal.specs.declared.Refusal.{Refusal}
+use Rattle.refusal.specs.Verdict.{Verdict, Accepted, Refused}
 use Rattle.supply.specs.Supply.{supply_of, supplies_of, offers}
 use Rattle.supply.specs.Allocation.{bought, cost_of}
 use Rattle.supply.specs.Meets.{meets}
@@ -34,3 +35,8 @@ split_of b rs = record {
 
 abbrev pub refused_split : Verdict → SplitPrice
 refused_split verdict = record { verdict = verdict; price = record { 0 = pos 0 }; meets = false }
+
+-- price and yes or no, or the refusal with price 0 and no
+abbrev pub split_told : Result (Cents × Bool) Refusal → SplitPrice
+split_told (Ok priced) = record { verdict = Accepted; price = priced.0; meets = priced.1 }
+split_told (Err refusal) = refused_split (Err refusal)
