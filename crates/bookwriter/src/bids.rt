@@ -24,6 +24,7 @@ fn segment_line(s: &Segment) -> [Part; 5]
     ]
 }
 
+// The bid is taken by value: behind a reference a proof is not told that a record holds six segments.
 fn put_segments(out: &mut Output<'_>, bid: Bid)
     requires { out.old.at ≤ 1000000 }
     ensures puts { Puts out.old (joined segment_text (bid_entries bid).segments) out.new }
@@ -36,8 +37,8 @@ fn put_segments(out: &mut Output<'_>, bid: Bid)
 
 // What stands before the segments of a bid.
 #[tactic(auto, using(lines::proofs::Together::together), unfolding(booktext::specs::BookText::bid_head))]
-fn bid_head(bid: Bid) -> [Part; 2]
-    ensures { joined part_text result ≡ bid_head (bid_entries bid) }
+fn bid_head(bid: &Bid) -> [Part; 2]
+    ensures { joined part_text result ≡ bid_head (bid_entries bid.now) }
 {
     [
         Part::Number(Word::Bid, bid.bidder),
@@ -45,29 +46,30 @@ fn bid_head(bid: Bid) -> [Part; 2]
     ]
 }
 
-fn put_bid(out: &mut Output<'_>, bid: Bid)
+fn put_bid(out: &mut Output<'_>, bid: &Bid)
     requires { out.old.at ≤ 900000 }
-    ensures puts { Puts out.old (bid_text (bid_entries bid)) out.new }
+    ensures puts { Puts out.old (bid_text (bid_entries bid.now)) out.new }
     ensures upper_bound { out.new.at ≤ out.old.at + 29000 }
 {
     lines::put(out, &bid_head(bid));
-    put_segments(out, bid);
+    put_segments(out, *bid);
     lines::put_part(out, Part::Fixed(Word::CloseLine));
 }
 
+// By value too, for the eight bids that a record holds.
 fn put_bids(out: &mut Output<'_>, book: Book)
     requires { out.old.at ≤ 4000 }
     ensures { Puts out.old (joined bid_text (book_entries book).bids) out.new }
 {
     for bid in book.listed() {
-        put_bid(out, *bid);
+        put_bid(out, bid);
     }
 }
 
 // The line of a book that stands before its bids.
 #[tactic(auto, using(lines::proofs::Together::together), unfolding(booktext::specs::BookText::book_head))]
-fn book_head(book: Book) -> [Part; 3]
-    ensures { joined part_text result ≡ book_head (book_entries book) }
+fn book_head(book: &Book) -> [Part; 3]
+    ensures { joined part_text result ≡ book_head (book_entries book.now) }
 {
     [
         Part::Number(Word::Demand, book.order.demand.0),
@@ -76,10 +78,10 @@ fn book_head(book: Book) -> [Part; 3]
     ]
 }
 
-pub fn put_book(out: &mut Output<'_>, book: Book)
+pub fn put_book(out: &mut Output<'_>, book: &Book)
     requires { out.old.at ≡ 0 }
-    ensures { Puts out.old (book_text (book_entries book)) out.new }
+    ensures { Puts out.old (book_text (book_entries book.now)) out.new }
 {
     lines::put(out, &book_head(book));
-    put_bids(out, book);
+    put_bids(out, *book);
 }

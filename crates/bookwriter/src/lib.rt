@@ -12,12 +12,12 @@ use printer::Output;
 
 // A book as the text that it is.
 #[derive(Clone, Copy)]
-struct BookText {
-    book: Book,
+struct BookText<'a> {
+    book: &'a Book,
 }
 
-impl Text for BookText {
-    ghost text = { λ it. text_of it.book };
+impl Text for BookText<'_> {
+    ghost text = { λ it. text_of it.book.now };
 
     fn put(&self, out: &mut Output<'_>) {
         bids::put_book(out, self.book);
@@ -28,7 +28,7 @@ impl Text for BookText {
 pub fn measure(book: Book) -> usize
     ensures { result ≡ length (text_of book) }
 {
-    output::measure(&BookText { book })
+    output::measure(&BookText { book: &book })
 }
 
 // Writes the text of an accepted book at the beginning of the output. With a refusal the output is unchanged.
@@ -37,5 +37,5 @@ pub fn write(book: Book, out: &mut [u8]) -> TextWritten
     ensures out_after { out.new ≡ output_of book out.old }
 {
     let verdict = bookrules::check(book);
-    TextWritten::from(output::write(verdict, &BookText { book }, out))
+    TextWritten::from(output::write(verdict, &BookText { book: &book }, out))
 }

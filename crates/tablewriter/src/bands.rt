@@ -12,8 +12,8 @@ use sampling::{Band, Table};
 use words::Word;
 
 #[tactic(auto, using(lines::proofs::Together::together), unfolding(tabletext::specs::TableText::band_text))]
-fn band_line(b: Band) -> [Part; 3]
-    ensures { joined part_text result ≡ band_text b }
+fn band_line(b: &Band) -> [Part; 3]
+    ensures { joined part_text result ≡ band_text b.now }
 {
     [
         Part::Number(Word::Band, b.highest),
@@ -22,11 +22,12 @@ fn band_line(b: Band) -> [Part; 3]
     ]
 }
 
+// The table is taken by value: behind a reference a proof is not told that a record holds sixteen bands.
 pub fn put_bands(out: &mut Output<'_>, table: Table)
     requires { out.old.at ≡ 0 }
     ensures { Puts out.old (table_text (table_entries table)) out.new }
 {
     for band in table.listed() {
-        lines::put(out, &band_line(*band));
+        lines::put(out, &band_line(band));
     }
 }

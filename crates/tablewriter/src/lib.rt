@@ -12,15 +12,15 @@ use sampling::Table;
 
 // A table as the text that it is.
 #[derive(Clone, Copy)]
-struct TableText {
-    table: Table,
+struct TableText<'a> {
+    table: &'a Table,
 }
 
-impl Text for TableText {
-    ghost text = { λ it. table_text_of it.table };
+impl Text for TableText<'_> {
+    ghost text = { λ it. table_text_of it.table.now };
 
     fn put(&self, out: &mut Output<'_>) {
-        bands::put_bands(out, self.table);
+        bands::put_bands(out, *self.table);
     }
 }
 
@@ -30,5 +30,5 @@ pub fn write(table: Table, out: &mut [u8]) -> TextWritten
     ensures out_after { out.new ≡ table_output_of table out.old }
 {
     let verdict = tablerules::check(table);
-    TextWritten::from(output::write(verdict, &TableText { table }, out))
+    TextWritten::from(output::write(verdict, &TableText { table: &table }, out))
 }

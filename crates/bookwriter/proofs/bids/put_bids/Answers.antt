@@ -1,7 +1,6 @@
 -- A turn puts one bid more right after those before it (`puts_next`), so that after the last turn all are put.
-use Rattle.std.proofs.Common.{◌≡◌, length, sym, arith}
-use Rattle.lists.proofs.Slices.{length_held}
-use Rattle.lines.proofs.Listed.{few_listed}
+use Rattle.std.proofs.Common.{◌≡◌, length, sym, ap, arith}
+use Rattle.lists.proofs.Slices.{length_held, take_most}
 use Rattle.printer.proofs.Puts.{puts_none, puts_as, puts_next, puts_all}
 use Rattle.bookwriter.proofs.Sizes.{bid_line, bid_lines}
 use Rattle.bookwriter.proofs.bids.put_bids.Goals as goal
@@ -9,7 +8,8 @@ use Rattle.bookwriter.proofs.bids.put_bids.Goals as goal
 pub loop-bid-init : goal.loop-bid-init
 loop-bid-init c =
     let eight : length c.args.book.bids ≡ 8 = search (length_held, c.well_formed) in
-    record { few = few_listed _ _ _ 8 c.listed-bid-items.ensures eight; place = omega arith; puts = puts_none _ }
+    let listed = ap length c.listed-bid-items.ensures in
+    record { few = omega (arith, listed, take_most c.args.book.count c.args.book.bids); place = omega arith; puts = puts_none _ }
 
 pub loop-bid-preserved : goal.loop-bid-preserved
 loop-bid-preserved c =

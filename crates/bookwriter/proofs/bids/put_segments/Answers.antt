@@ -1,15 +1,15 @@
 -- A turn puts one segment more right after those before it (`puts_next`), so that after the last turn all are put.
-use Rattle.std.proofs.Common.{◌≡◌, length, arith}
-use Rattle.lists.proofs.Slices.{length_held}
+use Rattle.std.proofs.Common.{◌≡◌, length, ap, arith}
+use Rattle.lists.proofs.Slices.{length_held, take_most}
 use Rattle.booktext.specs.BookText.{segment_text}
-use Rattle.lines.proofs.Listed.{few_listed}
 use Rattle.printer.proofs.Puts.{puts_none, puts_as, puts_next, puts_all}
 use Rattle.bookwriter.proofs.bids.put_segments.Goals as goal
 
 pub loop-segment-init : goal.loop-segment-init
 loop-segment-init c =
     let six : length c.args.bid.segments ≡ 6 = search (length_held, c.well_formed) in
-    record { few = few_listed _ _ _ 6 c.listed-segment-items.ensures six; place = omega arith; puts = puts_none _ }
+    let listed = ap length c.listed-segment-items.ensures in
+    record { few = omega (arith, listed, take_most c.args.bid.count c.args.bid.segments); place = omega arith; puts = puts_none _ }
 
 pub loop-segment-preserved : goal.loop-segment-preserved
 loop-segment-preserved c =
