@@ -4,7 +4,6 @@
 ghost use Rattle.std.specs.Prelude.{◌≡◌};
 ghost use Rattle.scanner.specs.Scans.{ScansAs};
 ghost use Rattle.booktext.specs.BookForm as Form;
-ghost use Rattle.booktext.specs.BookForm.{bid_of, book_of};
 ghost use Rattle.booktext.specs.Record.{bid_record, book_record};
 ghost use Rattle.bookrecord.specs.Adding.{with_bids};
 ghost use Rattle.booklines.specs.Heads.{bid_started, book_started};

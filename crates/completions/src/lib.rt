@@ -3,10 +3,9 @@
 // the search.
 #![tactic(auto)]
 
-ghost use Rattle.std.specs.Prelude.{◌≡◌, ◌+◌, ◌*◌, ◌≤◌, ◌<◌, length};
+ghost use Rattle.std.specs.Prelude.{◌≡◌, ◌+◌, ◌*◌, ◌<◌};
 ghost use Rattle.book.specs.Entries.{bid_entries};
 ghost use Rattle.supply.specs.Supply.{supply_of};
-ghost use Rattle.charges.specs.Records.{Capped};
 ghost use Rattle.completions.specs.Classes.{Graded, class_count, Surveyable, Surveyed};
 ghost use Rattle.completions.specs.Steps.{joined, Addable, Added, ClassExtendable, ClassExtended, Extendable, ExtendedBy, BidExtendable, ExtendedByBid};
 

@@ -2,7 +2,7 @@
 // that the prices are in range; good ones make it fast.
 #![tactic(auto)]
 
-ghost use Rattle.std.specs.Prelude.{◌≡◌, ◌≤◌};
+ghost use Rattle.std.specs.Prelude.{◌≤◌};
 ghost use Rattle.book.specs.Entries.{bid_entries};
 ghost use Rattle.book.specs.Accepted.{AcceptedBid};
 ghost use Rattle.charges.specs.Charge.{highest};

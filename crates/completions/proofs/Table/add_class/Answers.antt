@@ -1,7 +1,6 @@
 -- The class at its index is joined with the one more, and the others stand.
 use Rattle.std.proofs.Common.{◌≡◌, ℕ, ◌+◌, ◌*◌, ◌<◌, List, length, arith}
 use Rattle.std.proofs.Math.ListN.{set}
-use Rattle.lists.proofs.Slices.{length_held}
 use Rattle.charges.specs.declared.Sums.{Sums}
 use Rattle.completions.specs.Classes.{class_at}
 use Rattle.completions.specs.Steps.{joined, Put}
