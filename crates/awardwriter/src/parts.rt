@@ -10,7 +10,7 @@ use lines::Part;
 
 impl Layout {
     // Demand, what is bought, and total price.
-    pub fn first_line(self, award: &Award) -> [Part; 4]
+    pub(crate) fn first_line(self, award: &Award) -> [Part; 4]
         ensures { joined part_text result ≡ layout_first self award.now }
     {
         match self {
@@ -20,7 +20,7 @@ impl Layout {
     }
 
     // The line of a bid.
-    pub fn row_line(self, row: &Row) -> [Part; 7]
+    pub(crate) fn row_line(self, row: &Row) -> [Part; 7]
         ensures { joined part_text result ≡ layout_row self row.now }
     {
         match self {

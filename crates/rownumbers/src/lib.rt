@@ -7,7 +7,7 @@ ghost use Rattle.rownumbers.specs.RowNumbers.{covered, amount, row_numbers, awar
 
 use award::{Award, Row, Total};
 
-// Whether a total is an amount, and the amount.
+// A total as C has it, without enums: 1 and the amount, or 0 and 0.
 fn total_numbers(total: Total) -> (u64, u64)
     ensures { result ≡ (covered total, amount total) }
 {

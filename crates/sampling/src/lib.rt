@@ -19,7 +19,7 @@ pub struct Band {
 }
 
 // A sampling table: the first `count` of the bands; the others are ignored. A count may say that there were more bands than the record
-// holds: such a table is refused.
+// holds: such a table is refused. An array with a count, since nothing is allocated.
 #[derive(Clone, Copy)]
 pub struct Table {
     pub count: usize,

@@ -21,7 +21,8 @@ fn keeps(before: Band, b: Band) -> bool
         && b.sample <= before.highest + 1
 }
 
-// The first line whose band breaks a rule; the first band stands on line 1.
+// The first line whose band breaks a rule; the first band stands on line 1. A walk of its own beside that of `bookrules`: one for both
+// would take the test and what it needs of the entry before as closures, and be no plainer.
 fn check_bands(bands: &[Band]) -> Verdict
     ensures { result ≡ bands_verdict 1 (Sampling.band 0 0) bands.now }
 {
