@@ -1,3 +1,2 @@
 pub mod Answers
 mod Whole
-mod Held

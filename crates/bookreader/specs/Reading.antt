@@ -1,12 +1,15 @@
 -- Reading a bid book: what every text gets.
-use Rattle.std.specs.Prelude.{ℕ, cond, List, leb, length}
+use Rattle.std.specs.Prelude.{ℕ, cond, List, leb, length, Result}
 use Rattle.refusal.specs.Checks.{when_accepted}
+use Rattle.refusal.specs.declared.Refusal.{Refusal}
 use Rattle.refusal.specs.declared.Rule.{Rule}
 use Rattle.refusal.specs.declared.Rule.TheVariants.{TextLength, Shape}
 use Rattle.refusal.specs.Verdict.{Refused}
+use Rattle.book.specs.declared.Book.{Book}
 use Rattle.book.specs.Entries.{BookEntries, book_entries}
 use Rattle.book.specs.Rules.{book_verdict}
 use Rattle.forms.specs.Shape.{answer}
+use Rattle.textreading.specs.Outcome.{or_refusal}
 use Rattle.booktext.specs.BookText.{book_text}
 use Rattle.booktext.specs.WellFormed.{WellFormedBook}
 use Rattle.booktext.specs.Record.{book_record, empty_book}
@@ -30,3 +33,7 @@ unfoldable pub read_of : List ℕ → BookRead
 read_of t =
     cond (leb (length t) 4096) (answer WellFormedBook book_text book_answer (refused_answer Shape) (book_reading t))
     (refused_answer TextLength 4096)
+
+-- the same as one value: the book of a text, or the refusal
+abbrev pub book_of_text : List ℕ → Result Book Refusal
+book_of_text t = or_refusal (read_of t).verdict (read_of t).book

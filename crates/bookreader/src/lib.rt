@@ -2,13 +2,11 @@
 #![tactic(auto)]
 
 ghost use Rattle.std.specs.Prelude.{◌≡◌};
-ghost use Rattle.bookreader.specs.Reading.{read_of, refused_answer};
-
-// The reader struct.
-mod reading;
+ghost use Rattle.bookreader.specs.Reading.{read_of, book_of_text};
 
 use book::Book;
-use refusal::{Rule, Verdict};
+use refusal::{Refusal, Rule, Verdict};
+use scanner::Reader;
 
 // The book of a text, or all zeros beside a refusal.
 #[derive(Clone, Copy)]
@@ -17,36 +15,32 @@ pub struct BookRead {
     pub book: Book,
 }
 
-fn refused(rule: Rule, place: u64) -> BookRead
-    ensures { result ≡ refused_answer rule place }
+// The book of a text, or why it is refused. The whole text is parsed before rules 3 to 8 are looked at.
+pub fn book_of(text: &[u8]) -> Result<Book, Refusal>
+    ensures { result ≡ book_of_text text.now }
 {
-    BookRead {
-        verdict: Err(rule.at(place)),
-        book: bookrecord::empty_book(),
-    }
+    let fits = text.len() <= 4_096;
+    Rule::TextLength.unless(fits, 4_096)?;
+    let mut reader = Reader::new(text);
+    let book = booklines::lines(&mut reader)?;
+    let ended = reader.at == text.len();
+    Rule::Shape.unless(ended, reader.at as u64)?;
+    bookrules::check(book)?;
+    Ok(book)
 }
 
-// Reads a book from any bytes. The whole text is parsed before rules 3 to 8 are looked at.
+// Reads a book from any bytes.
 pub fn read(text: &[u8]) -> BookRead
     ensures { result ≡ read_of text.now }
 {
-    let too_long = 4_096 < text.len();
-    if too_long {
-        return refused(Rule::TextLength, 4_096);
+    match book_of(text) {
+        Ok(book) => BookRead {
+            verdict: Ok(()),
+            book,
+        },
+        Err(refusal) => BookRead {
+            verdict: Err(refusal),
+            book: bookrecord::empty_book(),
+        },
     }
-    let parsed = reading::book(text);
-    let next = parsed.next;
-    if next.stopped {
-        return refused(Rule::Shape, next.at as u64);
-    }
-    let goes_on = next.at < text.len();
-    if goes_on {
-        return refused(Rule::Shape, next.at as u64);
-    }
-    let book = parsed.book;
-    let verdict = bookrules::check(book);
-    if let Err(refusal) = verdict {
-        return refused(refusal.rule, refusal.place);
-    }
-    BookRead { verdict, book }
 }

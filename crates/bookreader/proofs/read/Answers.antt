@@ -1,50 +1,10 @@
--- By cases: too long, stopped, bytes left over, refused by a rule, accepted; each is a law of every kind of text (`textreading`).
-use Rattle.std.proofs.Common.{◌≡◌, ◌∙◌, subst, arith}
-use Rattle.forms.specs.Place.{Gives}
-use Rattle.textreading.proofs.Answers.{read_long, read_stopped, read_ended, read_whole, answer_refused, answer_accepted}
-use Rattle.booktext.specs.BookForm.{book}
-use Rattle.bookreader.specs.Reading.{book_answer, read_of}
+-- What is given follows from the book or the refusal of the text (`textreading`).
+use Rattle.textreading.proofs.Outcome.{answer_accepted, answer_refused}
 use Rattle.bookreader.proofs.Answers.{books}
 use Rattle.bookreader.proofs.read.Goals as goal
-use Rattle.bookreader.proofs.read.Goals.{After-check-verdict}
 
--- where the text was parsed and nothing is left over, the answer is that of the entries
-whole : (c : After-check-verdict) → book_answer c.book-parsed.ensures.0 ≡ read_of c.args.text.now
-whole c =
-    let b = c.book-parsed.ensures.0 in
-    let e = c.book-parsed.result.next.at in
-    read_whole books c.args.text.now (omega arith) b e (subst (Gives book c.args.text.now 0 b e) c.if-next.false c.book-parsed.ensures.2)
-    (omega arith)
+pub returns-in-Ok : goal.returns-in-Ok
+returns-in-Ok c = answer_accepted books c.args.text.now c.in-Ok.book c.in-Ok.ensures
 
-pub returns-then-too_long : goal.returns-then-too_long
-returns-then-too_long c = c.refused.ensures ∙ read_long books c.args.text.now (omega arith)
-
-pub returns-then-next : goal.returns-then-next
-returns-then-next c =
-    let t = c.args.text.now in
-    let b = c.book-parsed.ensures.0 in
-    let e = c.book-parsed.result.next.at in
-    c.refused-then-next.ensures ∙ read_stopped books t (omega arith) e (subst (Gives book t 0 b e) c.if-next.true c.book-parsed.ensures.2)
-
-pub returns-then-goes_on : goal.returns-then-goes_on
-returns-then-goes_on c =
-    let t = c.args.text.now in
-    let b = c.book-parsed.ensures.0 in
-    let e = c.book-parsed.result.next.at in
-    c.refused-then-goes_on.ensures
-    ∙ read_ended books t (omega arith) b e (subst (Gives book t 0 b e) c.if-next.false c.book-parsed.ensures.2) (omega arith)
-
-pub returns-in-Refused : goal.returns-in-Refused
-returns-in-Refused c =
-    let parsed = c.book-parsed in
-    let v = c.check-verdict in
-    c.refused-in-Refused.ensures
-    ∙ answer_refused books parsed.ensures.0 parsed.result.book v.result parsed.ensures.1 v.ensures c.in-Refused.rule c.in-Refused.line c.in-Refused.is
-    ∙ whole (goal.at.returns-in-Refused c).After-check-verdict
-
-pub returns : goal.returns
-returns c =
-    let parsed = c.book-parsed in
-    let v = c.check-verdict in
-    answer_accepted books parsed.ensures.0 parsed.result.book v.result parsed.ensures.1 v.ensures c.in_default.is
-    ∙ whole (goal.at.returns c).After-check-verdict
+pub returns-in-Err : goal.returns-in-Err
+returns-in-Err c = rw c.empty_book.ensures (answer_refused books c.args.text.now c.in-Err.refusal c.in-Err.ensures)
