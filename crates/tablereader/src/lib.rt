@@ -34,7 +34,7 @@ impl From<Result<Table, Refusal>> for TableRead {
 }
 
 // The table of a text, or why it is refused. The whole text is parsed before rule 12 is looked at.
-pub fn table(text: &[u8]) -> Result<Table, Refusal>
+pub fn table_of(text: &[u8]) -> Result<Table, Refusal>
     ensures { result ≡ table_of_text text.now }
 {
     let fits = text.len() <= 4_096;
@@ -52,5 +52,5 @@ pub fn table(text: &[u8]) -> Result<Table, Refusal>
 pub fn read(text: &[u8]) -> TableRead
     ensures { result ≡ read_table_of text.now }
 {
-    TableRead::from(table(text))
+    TableRead::from(table_of(text))
 }
