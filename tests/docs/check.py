@@ -12,7 +12,7 @@
 #   layer  what is to be believed names nothing of proofs/: no definition of specs/ and no contract of src/, but for the exceptions below
 #   shut   a definition behind a name is opened by the proofs of its own crate alone, and the code names a bid's carriage only where it is
 #          read, written, checked and put into a price, the printed sampling table only where none is passed, or it is written
-#   sums   a choice's record is made in `choicerecord` alone, and every function that gives one ensures that it carries its sums
+#   sums   a choice's record is made in `choicerecord` alone, and that it carries its sums is an invariant of it, a ghost field
 #   proof  what stands in proofs/ of a function (Answers.antt, or Invariants.antt where that is all) begins with a comment, which says why the
 #          function meets its contract
 #   named  nothing that a file of specs/ or proofs/ declares or binds, and no parameter, field or local of the code, has the name of a
@@ -431,27 +431,32 @@ def check_shut():
 # ---- choices and their sums
 
 MAKES_CHOICES = "choicerecord"
+# The parts of a definition that say it of both sums.
+CARRIED = ["starts_carried", "ends_carried"]
 
 
-def saying(name):
-    """The definitions of specs/ that have the named one in them, itself first."""
-    said = [name]
-    texts = [uncommented(file) for file in glob.glob("crates/*/specs/**/*.antt", recursive=True)]
+def carrying():
+    """The definitions of the crate that makes choices which have these parts."""
+    texts = [uncommented(file) for file in sorted(glob.glob(f"crates/{MAKES_CHOICES}/specs/*.antt"))]
     records = [found for text in texts for found in re.findall(r"^pub record (\w+)(.*(?:\n +.*)*)", text, re.M)]
-    for outer in said:
-        said += [record for record, fields in records if record not in said and re.search(rf": .*\b{outer}\b", fields)]
-    return said
+    return [name for name, fields in records if all(re.search(rf"^ +pub {part} : ", fields, re.M) for part in CARRIED)]
+
+
+def held_by(path, struct):
+    """The definitions that the ghost fields of a struct name: its invariants."""
+    found = re.search(rf"^pub struct {struct} \{{\n((?: .*\n)*)\}}", uncommented(path), re.M)
+    return re.findall(r"^ +(?:pub )?ghost \w+: \{ (\w+) .*\},$", found[1], re.M) if found else []
 
 
 def check_sums():
-    sound = rf"ensures(?: \w+)? {{ (?:{'|'.join(saying('Carried'))})(?: .*)? result }}"
+    record = f"crates/{MAKES_CHOICES}/src/lib.rt"
+    carried = set(held_by(record, "Choice")) & set(carrying())
+    check(carried != set(), record, "it is no invariant of a choice that it carries its sums")
     for file in sorted(glob.glob("crates/*/src/**/*.rt", recursive=True)):
-        text, made_here = uncommented(file), f"crates/{MAKES_CHOICES}/" in file
-        made = re.findall(r"(?<!struct )\bChoice \{|\.(?:starts|ends) = |\.segments\[\w+\] = ", text)
-        if "Choice" in text:
-            check(made_here or made == [], file, "makes or changes the record of a choice")
-        for name, contract in re.findall(r"^(?:pub )?fn (\w+)[^{]*?-> Choice\n((?: .*\n)*)", text, re.M):
-            check(re.search(sound, contract) is not None, file, f"{name} does not ensure that the choice it gives carries its sums")
+        text = uncommented(file)
+        if "Choice" in text and f"crates/{MAKES_CHOICES}/" not in file:
+            made = re.findall(r"(?<!-> )\bChoice \{|\.(?:starts|ends) = |\.segments\[\w+\] = ", text)
+            check(made == [], file, "makes or changes the record of a choice")
 
 
 # ---- what a proof begins with
