@@ -71,15 +71,6 @@ module _ (order : Order) (prices : Prices) where
 pub up_to_more : (j k : ℕ) (x : Sums) → j ≤ k → UpTo j x → UpTo k x
 up_to_more j k x h u = record { low = omega (arith, u.low); high = omega (arith, u.high); first = omega (arith, u.first); second = omega (arith, u.second) }
 
--- two sums together; the one more is then let be twice
-pub up_to_with : (j k : ℕ) (x y : Sums) → UpTo j x → UpTo k y → UpTo (j + k + 1) (sums_with x y)
-up_to_with j k x y a b = record {
-  low = omega (arith, a.low, b.low);
-  high = omega (arith, a.high, b.high);
-  first = omega (arith, a.first, b.first);
-  second = omega (arith, a.second, b.second);
-}
-
 -- with a segment more, of which the end is counted
 pub more_up_to : (k left : ℕ) (x y : Sums) → left ≡ k + 1 → UpTo k x → UpTo 1 y → y.high.0 ≤ million → UpTo left (sums_with x y)
 more_up_to k left x y e u v high = omega arith

@@ -89,34 +89,31 @@ impl Search<'_> {
         requires searching { Searching self.now.book.now self.now.prices c charged }
         ensures { found self.now.book.now.count result ≡ search self.now.book.now.order (drop c.count (supplies_of (book_entries self.now.book.now).bids)) (chosen c) (found self.now.book.now.count best) }
     {
-        let order = self.book.order;
-        let n = self.book.count;
         let bounds = Bounds {
             table: self.table,
-            order,
-            bidders: n,
+            order: self.book.order,
+            bidders: self.book.count,
             prices: self.prices,
         };
         let sums = sums_of(c, charged);
         if lost(&bounds, c, sums, best) {
             return best;
         }
-        let at = c.count;
-        let left = n - at;
-        let bid = self.book.bids[at];
+        let left = bounds.bidders - c.count;
+        let last = left == 1;
+        let bid = self.book.bids[c.count];
         let count = bid.count + 1;
         let mut so_far = best;
         for j in (0..count).rev() {
             let s = supply::segment_of(bid, j);
-            let more = sums + charges::charged(s, order, self.prices);
-            if !bounds.hopeless(at + 1, more, false, so_far) {
+            let more = sums + charges::charged(s, bounds.order, bounds.prices);
+            if !bounds.hopeless(c.count + 1, more, false, so_far) {
                 let next = c.choose(s);
-                let last = left == 1;
-                if last {
-                    so_far = leaf(order, next, so_far);
+                so_far = if last {
+                    leaf(bounds.order, next, so_far)
                 } else {
-                    so_far = self.search(next, more.charges, so_far);
-                }
+                    self.search(next, more.charges, so_far)
+                };
             }
         }
         so_far
