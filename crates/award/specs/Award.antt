@@ -1,19 +1,13 @@
 -- An award as a record: document 01, section "The sheet".
-use Rattle.std.specs.Prelude.{ℕ, Option, Some, None, pos, replicate}
-use Rattle.money.specs.declared.Cents.{Cents}
+use Rattle.std.specs.Prelude.{ℕ, pos, replicate}
 use Rattle.book.specs.Entries.{BidEntries}
 use Rattle.sampling.specs.Entries.{TableEntries}
 use Rattle.sampling.specs.Sampling.{sample_of}
 use Rattle.supply.specs.Supply.{supply_of, price_at, segment_number}
 use Rattle.award.specs.declared.Total.{Total}
-use Rattle.award.specs.declared.Total.TheVariants.{Amount, Nothing}
+use Rattle.award.specs.declared.Total.TheVariants.{Nothing}
 use Rattle.award.specs.declared.Row.{Row}
 use Rattle.award.specs.declared.Award.{Award}
-
--- an amount where there is one
-abbrev pub total_in : Option Cents → Total
-total_in (Some cost) = Amount cost
-total_in None = Nothing
 
 -- all zeros and `none`
 abbrev pub no_row : Row

@@ -6,7 +6,7 @@ ghost use Rattle.book.specs.Entries.{bid_entries};
 ghost use Rattle.book.specs.Accepted.{AcceptedBid};
 ghost use Rattle.supply.specs.Supply.{supply_of, price_at};
 ghost use Rattle.sampling.specs.Entries.{table_entries};
-ghost use Rattle.award.specs.Award.{total_in, no_row, no_award, row_of};
+ghost use Rattle.award.specs.Award.{no_row, no_award, row_of};
 
 use book::Bid;
 use money::{Blanks, Cents};
@@ -40,17 +40,6 @@ pub struct Award {
     pub total: Cents,
     pub count: usize,
     pub rows: [Row; 8],
-}
-
-impl From<Option<Cents>> for Total {
-    ghost from_gives = { λ cost total. total ≡ total_in cost };
-
-    fn from(cost: Option<Cents>) -> Total {
-        match cost {
-            Some(cost) => Total::Amount(cost),
-            None => Total::Nothing,
-        }
-    }
 }
 
 impl Award {

@@ -1,56 +1,35 @@
--- The book less a bid, along the loop that moves the later bids one place forward. Assumes nothing.
-use Prim.Native.Nat.{ℕ, ◌+◌, ◌-◌, ◌≤◌, ◌<◌}
+-- The book less a bid: the bids before it stay, and those after it move a place forward. Assumes nothing.
+use Prim.Native.Nat.{ℕ, suc, ◌+◌, ◌-◌, ◌≤◌, ◌<◌}
+use native.Mathlib.Numerals.{add-one}
 use native.Mathlib.Omega.{arith}
-use mathlib.Core.List.{map}
-use mathlib.Core.Path.{◌≡◌, refl, ap, ◌∙◌}
-use lib.ListN.{length, get_or, set, take, length-set}
-use Rattle.lists.proofs.Removed.{removed, map_removed, removed_start, removed_next}
+use mathlib.Core.List.{List, map, ◌++◌}
+use mathlib.Core.Path.{◌≡◌, ap, ap₂, sym, ◌∙◌}
+use lib.ListN.{length, take, drop, length-drop}
+use Rattle.std.specs.List.{copy_within}
+use Rattle.std.proofs.lemmas.List.{take-take, drop-take}
+use Rattle.std.proofs.lemmas.List.Edits.{take-paste}
+use Rattle.lists.proofs.Removed.{removed, map_removed}
+use Rattle.book.specs.declared.Bid.{Bid}
 use Rattle.book.specs.declared.Book.{Book}
 use Rattle.book.specs.Entries.{bid_entries, book_entries}
-use Rattle.book.proofs.Records.{no_bid}
 use Rattle.without.specs.Without.{book_without}
 
--- the bids after index `at` and up to i have been moved
-pub record Moved (at : ℕ) (book left : Book) (i : ℕ) : Type 0 where
-  pub from : at ≤ i
-  pub within : i + 1 ≤ book.count
-  pub order : left.order ≡ book.order
-  pub count : left.count ≡ book.count - 1
-  pub held : length left.bids ≡ 8
-  pub bids : take i left.bids ≡ removed at (take (i + 1) book.bids)
+module _ {A : Type 0} (xs : List A) (at n : ℕ) (h : at < n) (k : n ≤ length xs) where
+  abbrev later : ℕ
+  later = n - (at + 1)
 
-module _ (at : ℕ) (book : Book) (few : book.count ≤ 8) (held : length book.bids ≡ 8) where
-  pub moved_none : at < book.count → Moved at book (record { order = book.order; count = book.count - 1; bids = book.bids }) at
-  moved_none h = record {
-    from = omega arith;
-    within = omega arith;
-    order = refl;
-    count = refl;
-    held = held;
-    bids = removed_start at book.bids (omega arith);
-  }
+  moved : take (n - 1) (copy_within xs (at + 1) n at) ≡ removed at (take n xs)
+  moved =
+      let left : n - 1 ≡ at + later = omega arith in
+      let whole : n ≡ suc at + later = omega arith in
+      ap (λ (i : ℕ). take i (copy_within xs (at + 1) n at)) left
+      ∙ take-paste xs at (drop (at + 1) xs) later (omega arith) (omega (arith, length-drop (at + 1) xs))
+      ∙ ap₂ (λ (front back : List A). front ++ back) (sym (take-take at n xs (omega arith)))
+      (ap (λ (i : ℕ). take later (drop i xs)) (add-one at) ∙ sym (drop-take (suc at) later xs) ∙ ap (λ (i : ℕ). drop (suc at) (take i xs)) (sym whole))
 
-  module _ (left : Book) (i : ℕ) (moved : Moved at book left i) where
-    pub moved_next : i < book.count - 1
-        → Moved at book (record { order = left.order; count = left.count; bids = set left.bids i (get_or book.bids (i + 1) no_bid) }) (i + 1)
-    moved_next h = record {
-      from = omega (arith, moved.from);
-      within = omega arith;
-      order = moved.order;
-      count = moved.count;
-      held = length-set left.bids i (get_or book.bids (i + 1) no_bid) ∙ moved.held;
-      bids = removed_next at i book.bids left.bids no_bid moved.from (omega arith) (omega (arith, moved.held)) moved.bids;
-    }
-
-    moved_bids : book.count - 1 ≤ i → map bid_entries (take left.count left.bids) ≡ removed at (map bid_entries (take book.count book.bids))
-    moved_bids h =
-        let end : left.count ≡ i = omega (arith, moved.within, moved.count) in
-        let all : i + 1 ≡ book.count = omega (arith, moved.within) in
-        ap (λ (n : ℕ). map bid_entries (take n left.bids)) end
-        ∙ ap (map bid_entries) moved.bids
-        ∙ ap (λ (n : ℕ). map bid_entries (removed at (take n book.bids))) all
-        ∙ map_removed bid_entries at (take book.count book.bids)
-
-    pub moved_all : book.count - 1 ≤ i → book_entries left ≡ book_without at (book_entries book)
-    unfolding book_without
-    moved_all h = rw (moved_bids h, moved.count, moved.order)
+pub less : (book : Book) (at : ℕ) (bids : List Bid) → at < book.count → book.count ≤ length book.bids → bids ≡ copy_within book.bids (at + 1) book.count at
+    → book_entries (record { order = book.order; count = book.count - 1; bids = bids }) ≡ book_without at (book_entries book)
+unfolding book_without
+less book at bids h k e =
+    rw
+    (ap (map bid_entries) (ap (take (book.count - 1)) e ∙ moved book.bids at book.count h k) ∙ map_removed bid_entries at (take book.count book.bids))

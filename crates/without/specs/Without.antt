@@ -6,7 +6,7 @@ use Rattle.book.specs.declared.Book.{Book}
 use Rattle.book.specs.Entries.{BookEntries, book_entries}
 use Rattle.book.specs.Rules.{book_verdict}
 use Rattle.divisions.specs.Award.{Priced, award_of_book}
-use Rattle.comparison.specs.declared.MaybeDivision.{MaybeDivision}
+use Rattle.comparison.specs.declared.PricedDivision.{PricedDivision}
 use Rattle.comparison.specs.Records.{division_in}
 use Rattle.award.specs.declared.Total.{Total}
 use Rattle.award.specs.declared.Total.TheVariants.{Amount, Nothing}
@@ -35,7 +35,7 @@ pub record BidOf (b : BookEntries) (i : ℕ) : Type 0 where
   pub within : i < b.count
 
 -- what `total_beside` asks: an accepted book, the index of one of its bids, and the book's award
-pub record BesideAward (book : Book) (i : ℕ) (award : MaybeDivision) : Type 0 where
+pub record BesideAward (book : Book) (i : ℕ) (award : PricedDivision) : Type 0 where
   pub accepted : book_verdict (book_entries book) ≡ Accepted
   pub within : i < book.count
   pub is_award : award_of_book (book_entries book) ≡ some (division_in book.count award)

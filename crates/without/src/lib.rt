@@ -7,51 +7,41 @@ ghost use Rattle.without.specs.Without.{book_without, total_without, OneOf, BidO
 
 use award::Total;
 use book::Book;
-use comparison::MaybeDivision;
+use comparison::PricedDivision;
+use money::Blanks;
 
-// The book less the bid with this index.
-#[tactic(auto, using(crate::proofs::Less::moved_all))]
+// The book less the bid with this index: the later bids move a place forward.
 fn book_without(book: Book, at: usize) -> Book
     requires { OneOf book.count at }
     ensures { book_entries result ≡ book_without at (book_entries book) }
 {
-    let count = book.count - 1;
     let mut left = book;
-    left.count = count;
-    let mut i = at;
-    while i < count {
-        let bid = book.bids[i + 1];
-        left.bids[i] = bid;
-        i += 1;
-    }
+    left.bids.copy_within(at + 1..book.count, at);
+    left.count -= 1;
     left
 }
 
 // The total that clearing gives for the bids left: `Nothing` only where they have no division.
-#[tactic(auto, using(crate::proofs::Found::total_nothing, crate::proofs::Found::total_amount))]
+#[tactic(auto, using(crate::proofs::Found::total_amount, crate::proofs::Found::total_nothing))]
 fn total_without(book: Book, at: usize) -> Total
     requires { BidOf (book_entries book) at }
     ensures { result ≡ total_without (book_entries book) at }
 {
     let left = book_without(book, at);
-    let others = search::best_division(left);
-    if !others.found {
-        return Total::Nothing;
+    match search::best_division(left) {
+        Some(others) => Total::Amount(others.cost),
+        None => Total::Nothing,
     }
-    let cost = others.cost;
-    Total::Amount(cost)
 }
 
 // The total without a bidder, beside the award: where it sells nothing, that is the award's.
-pub fn total_beside(book: Book, at: usize, award: MaybeDivision) -> Total
+pub fn total_beside(book: Book, at: usize, award: PricedDivision) -> Total
     requires { BesideAward book at award }
     ensures { result ≡ total_without (book_entries book) at }
 {
-    let quantity = award.quantities[at];
-    let sells_nothing = quantity.0 == 0;
+    let sells_nothing = award.quantities[at] == Blanks(0);
     if sells_nothing {
-        let cost = award.cost;
-        return Total::Amount(cost);
+        return Total::Amount(award.cost);
     }
     total_without(book, at)
 }

@@ -1,4 +1,5 @@
 -- Where the bidder sells nothing, the others' award costs what the award costs; else the total is that of the book less its bid.
+use borrow.Author.Tests.{eqb-true}
 use Rattle.std.proofs.Common.{◌≡◌, ◌≤◌, length, get_or, sym, ◌∙◌, arith}
 use Rattle.lists.proofs.Slices.{length_held}
 use Rattle.book.specs.Entries.{book_entries}
@@ -25,6 +26,6 @@ returns-then-sells_nothing c =
     let held : length b.bids ≡ 8 = search (length_held, c.well_formed) in
     let few : b.count ≤ 8 = few_bids b c.requires.accepted held in
     let bids : length (book_entries b).bids ≡ b.count = length_entries b.bids b.count (omega arith) in
-    let nothing : (get_or s.award.quantities s.at (record { 0 = 0 })).0 ≡ 0 = omega arith in
+    let nothing = eqb-true (get_or s.award.quantities s.at (record { 0 = 0 })).0 0 (sym c.eq-sells_nothing.ensures ∙ c.if-sells_nothing.true) in
     let sold = quantity_at b.count s.award.quantities _ c.requires.within ∙ nothing in
     sym (same_total (book_entries b) _ c.requires.is_award _ (omega arith) sold)

@@ -7,7 +7,7 @@ use Rattle.without.proofs.total_without.Goals as goal
 pub book_without-left-requires : goal.book_without-left-requires
 book_without-left-requires c = record { within = c.requires.within; few = (book_accepted (book_entries c.args.book) c.requires.accepted).count_high }
 
-pub best_division-others-requires : goal.best_division-others-requires
-best_division-others-requires c =
+pub best_division-requires : goal.best_division-requires
+best_division-requires c =
     let less = c.book_without-left in
     search (searchable_without (book_entries c.args.book) c.requires.accepted c.args.at less.result less.ensures)
