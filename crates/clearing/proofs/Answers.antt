@@ -1,10 +1,11 @@
 -- The answer of clearing by cases, and from what the search found. Assumes nothing.
 use Prim.Native.Nat.{ℕ}
-use mathlib.Core.Bool.{false}
 use mathlib.Core.List.{List}
 use mathlib.Core.Option.{some, none}
 use mathlib.Core.Path.{◌≡◌, sym, ap, ◌∙◌}
 use lib.ListN.{take}
+use Rattle.std.specs.Prelude.{Result, Ok, Err, Some, None}
+use Rattle.refusal.specs.declared.Refusal.{Refusal}
 use Rattle.lists.specs.Padded.{padded}
 use Rattle.refusal.specs.declared.Rule.{Rule}
 use Rattle.refusal.specs.declared.Rule.TheVariants.{NotCovered}
@@ -15,13 +16,13 @@ use Rattle.book.specs.Rules.{book_verdict}
 use Rattle.sampling.specs.Entries.{TableEntries}
 use Rattle.supply.specs.Supply.{supplies_of}
 use Rattle.divisions.specs.Award.{Priced, award_of, award_of_book}
-use Rattle.comparison.specs.declared.MaybeDivision.{MaybeDivision}
+use Rattle.comparison.specs.declared.PricedDivision.{PricedDivision}
 use Rattle.comparison.specs.Records.{blanks_in, division_in, found}
 use Rattle.award.specs.declared.Row.{Row}
+use Rattle.award.specs.declared.Award.{Award}
 use Rattle.award.specs.Award.{no_row}
-use Rattle.search.proofs.Found.{award_none}
 use Rattle.clearing.specs.declared.Clearing.{Clearing}
-use Rattle.clearing.specs.Clearing.{rows_from, award_record, refused_clearing, cleared_book, clear_sampled, BookAward}
+use Rattle.clearing.specs.Clearing.{rows_from, award_record, refused_clearing, cleared_book, clear_sampled, clearing_told, BookAward}
 
 -- A book's own refusal, no division, or an award.
 module _ (table : TableEntries) (b : BookEntries) where
@@ -46,19 +47,28 @@ module _ (table : TableEntries) (b : BookEntries) where
   division award e f = rules_passed e ∙ ap (cleared_book table b) f
 
 -- what clearing gives with these rows, where a division was found
-abbrev awarded : Book → MaybeDivision → List Row → Clearing
-awarded book best rows = record {
-  verdict = Accepted;
-  award = record { demand = book.order.demand; bought = best.bought; total = best.cost; count = book.count; rows = rows };
-}
+abbrev awarded : Book → PricedDivision → List Row → Award
+awarded book best rows = record { demand = book.order.demand; bought = best.bought; total = best.cost; count = book.count; rows = rows }
 
--- From the search's answer for the record of an accepted book: that there is no division, or the award.
-pub clear_none : (table : TableEntries) (book : Book) (best : MaybeDivision) → found book.count best ≡ award_of book.order (supplies_of (book_entries book).bids)
-    → book_verdict (book_entries book) ≡ Accepted → best.found ≡ false → refused_clearing (Refused NotCovered 0) ≡ clear_sampled table (book_entries book)
-clear_none table book best searched accepted h = sym (no_division table (book_entries book) accepted (award_none book best searched h))
+-- From what the steps of clearing found for a record: a refusal by its rules, no division, or the award.
+module _ (table : TableEntries) (book : Book) where
+  pub clear_refused : (res : Result Award Refusal) (refusal : Refusal) → res ≡ Err refusal → book_verdict (book_entries book) ≡ Err refusal
+      → clearing_told res ≡ clear_sampled table (book_entries book)
+  unfolding clear_sampled
+  clear_refused res refusal e f = rw (e, f)
 
-pub clear_award : (table : TableEntries) (book : Book) (best : MaybeDivision) → BookAward book best → (rows : List Row)
-    → rows ≡ padded 8 no_row (rows_from table (book_entries book) 0 (book_entries book).bids (take book.count (blanks_in best.quantities)))
-    → awarded book best rows ≡ clear_sampled table (book_entries book)
-unfolding award_record
-clear_award table book best is rows e = rw e (sym (division table (book_entries book) (division_in book.count best) is.accepted is.is_award))
+  module _ (accepted : book_verdict (book_entries book) ≡ Accepted) where
+    pub clear_none : (res : Result Award Refusal) → res ≡ Err (record { rule = NotCovered; place = 0 })
+        → found book.count None ≡ award_of book.order (supplies_of (book_entries book).bids) → clearing_told res ≡ clear_sampled table (book_entries book)
+    unfolding award_of_book
+    clear_none res e searched = rw e (sym (no_division table (book_entries book) accepted (sym searched)))
+
+    pub is_award : (best : PricedDivision) → found book.count (Some best) ≡ award_of book.order (supplies_of (book_entries book).bids) → BookAward book best
+    unfolding award_of_book
+    is_award best searched = record { accepted = accepted; is_award = sym searched }
+
+    pub clear_award : (best : PricedDivision) → BookAward book best → (rows : List Row)
+        → rows ≡ padded 8 no_row (rows_from table (book_entries book) 0 (book_entries book).bids (take book.count (blanks_in best.quantities)))
+        → clearing_told (Ok (awarded book best rows)) ≡ clear_sampled table (book_entries book)
+    unfolding award_record
+    clear_award best is rows e = rw e (sym (division table (book_entries book) (division_in book.count best) is.accepted is.is_award))

@@ -1,11 +1,11 @@
 -- What clearing gives for every book: document 01, sections "Price and allocation", "The sheet" and "What is turned down".
-use Rattle.std.specs.Prelude.{ℕ, suc, List, [], ◌∷◌, ◌≡◌}
+use Rattle.std.specs.Prelude.{ℕ, suc, List, [], ◌∷◌, ◌≡◌, Result, Ok, Err}
 use Rattle.std.proofs.Math.Option.{Option, some, none}
 use Rattle.lists.specs.Padded.{padded}
 use Rattle.refusal.specs.Checks.{when_accepted}
 use Rattle.refusal.specs.declared.Rule.TheVariants.{NotCovered}
-use Rattle.refusal.specs.Verdict.{Verdict}
-use Rattle.refusal.specs.Verdict.{Accepted, Refused}
+use Rattle.refusal.specs.declared.Refusal.{Refusal}
+use Rattle.refusal.specs.Verdict.{Verdict, Accepted, Refused}
 use Rattle.book.specs.declared.Book.{Book}
 use Rattle.book.specs.Entries.{BidEntries, BookEntries, book_entries}
 use Rattle.book.specs.Rules.{book_verdict}
@@ -13,7 +13,7 @@ use Rattle.sampling.specs.Entries.{TableEntries}
 use Rattle.sampling.specs.Sampling.{printed_table}
 use Rattle.sampling.specs.Rules.{table_verdict}
 use Rattle.divisions.specs.Award.{Priced, award_of_book}
-use Rattle.comparison.specs.declared.MaybeDivision.{MaybeDivision}
+use Rattle.comparison.specs.declared.PricedDivision.{PricedDivision}
 use Rattle.comparison.specs.Records.{division_in}
 use Rattle.award.specs.declared.Row.{Row}
 use Rattle.award.specs.declared.Award.{Award}
@@ -40,6 +40,11 @@ award_record table b award = record {
 abbrev pub refused_clearing : Verdict → Clearing
 refused_clearing verdict = record { verdict = verdict; award = no_award }
 
+-- an award, or the refusal with none beside it
+abbrev pub clearing_told : Result Award Refusal → Clearing
+clearing_told (Ok award) = record { verdict = Accepted; award = award }
+clearing_told (Err refusal) = refused_clearing (Err refusal)
+
 -- of a book that rules 3 to 8 accept: 9 with place 0 where there is no division
 unfoldable pub cleared_book : TableEntries → BookEntries → Option Priced → Clearing
 cleared_book table b none = refused_clearing (Refused NotCovered 0)
@@ -58,6 +63,6 @@ unfoldable pub clear_by_table : TableEntries → BookEntries → Clearing
 clear_by_table table b = when_accepted (table_verdict table) (clear_sampled table b) (refused_clearing (table_verdict table))
 
 -- what `rows` asks: an accepted book, and its award
-pub record BookAward (book : Book) (award : MaybeDivision) : Type 0 where
+pub record BookAward (book : Book) (award : PricedDivision) : Type 0 where
   pub accepted : book_verdict (book_entries book) ≡ Accepted
   pub is_award : award_of_book (book_entries book) ≡ some (division_in book.count award)
