@@ -3,7 +3,8 @@ use Prim.Native.Nat.{ℕ, ◌≤◌}
 use native.Mathlib.Omega.{arith}
 use mathlib.Core.Bool.{Bool, true, false, ◌&&◌, and-false, false≢true}
 use mathlib.Core.Logic.{◌↔◌}
-use mathlib.Core.Option.{Option, some, none}
+use mathlib.Core.Option.{Option as Maybe, some, none}
+use Rattle.std.specs.Prelude.{Option, Some, None, Result, Ok, Err}
 use mathlib.Core.Path.{◌≡◌, refl, sym, ap, ◌∙◌}
 use borrow.Author.Tests.{leb-true}
 use lib.Dec.{leb}
@@ -12,10 +13,11 @@ use Rattle.lists.specs.Least.{Least}
 use Rattle.lists.proofs.Tests.{both_left}
 use Rattle.lists.proofs.Least.{none_found, least_found}
 use Rattle.refusal.specs.Checks.{unless, when_accepted}
-use Rattle.refusal.specs.declared.Rule.{Rule}
+use Rattle.refusal.specs.declared.Refusal.{Refusal}
+use Rattle.money.specs.declared.CentsPerBlank.{CentsPerBlank}
 use Rattle.refusal.specs.declared.Rule.TheVariants.{NotCovered, UnknownBidder}
 use Rattle.refusal.specs.Verdict.{Verdict}
-use Rattle.refusal.specs.Verdict.{Accepted, Refused}
+use Rattle.refusal.specs.Verdict.{Accepted}
 use Rattle.refusal.proofs.Firsts.{only}
 use Rattle.book.specs.Entries.{BookEntries, bid_entries}
 use Rattle.book.specs.Rules.{book_verdict}
@@ -23,33 +25,38 @@ use Rattle.book.proofs.Records.{no_bid}
 use Rattle.divisions.specs.Award.{Priced, award_of_book}
 use Rattle.discount.specs.Discount.{is_of, book_off, leaves_accepted}
 use Rattle.discount.specs.Named.{Named}
-use Rattle.toodear.specs.declared.Discount.TheVariants.{Amount, Nothing}
-use Rattle.toodear.specs.TooDear.{sells_with, wins_with, smallest_off, discount_of, covers, too_dear_verdict, no_amount, too_dear_of}
+use Rattle.toodear.specs.TooDear.{sells_with, wins_with, smallest_off, discount_of, covers, too_dear_verdict, too_dear_told, too_dear_of}
 use Rattle.toodear.proofs.Sold.{named_in}
 use Rattle.toodear.proofs.Rises.{off_nothing, same_cover}
 use Rattle.toodear.proofs.Halved.{all_have, rises}
 
 -- where one has none exactly if the other has none
-covers_same : (o p : Option Priced) → (o ≡ none) ↔ (p ≡ none) → covers o ≡ covers p
+covers_same : (o p : Maybe Priced) → (o ≡ none) ↔ (p ≡ none) → covers o ≡ covers p
 covers_same none p (to, from) = ap covers (sym (to refl))
 covers_same (some a) none (to, from) = ap covers (from refl)
 covers_same (some a) (some c) (to, from) = refl
 
 -- by verdict and number
-pub answer : (b : BookEntries) (bidder : ℕ) (v : Verdict) (o : Option ℕ) → too_dear_verdict b bidder ≡ v → smallest_off b bidder ≡ o
-    → record { verdict = v; discount = when_accepted v (discount_of o) Nothing } ≡ too_dear_of b bidder
+answer : (b : BookEntries) (bidder : ℕ) (v : Verdict) (o : Maybe ℕ) → too_dear_verdict b bidder ≡ v → smallest_off b bidder ≡ o
+    → record { verdict = v; discount = when_accepted v (discount_of o) None } ≡ too_dear_of b bidder
 unfolding too_dear_of
 answer b bidder v o e f = rw (e, f)
 
--- the book's own refusal, and then that the bidder is not in it
-pub own_refusal : (b : BookEntries) (bidder : ℕ) (v : Verdict) (rule : Rule) (line : ℕ) → v ≡ book_verdict b → v ≡ Refused rule line → no_amount v ≡ too_dear_of b bidder
-unfolding too_dear_verdict
-own_refusal b bidder v rule line e f =
-    ap no_amount f ∙ answer b bidder (Refused rule line) (smallest_off b bidder) (rw (sym e ∙ f)) refl
+-- a refusal
+refused : (b : BookEntries) (bidder : ℕ) (refusal : Refusal) → too_dear_verdict b bidder ≡ Err refusal → (res : Result (Option CentsPerBlank) Refusal) → res ≡ Err refusal
+    → too_dear_told res ≡ too_dear_of b bidder
+refused b bidder refusal e res f = rw f (answer b bidder (Err refusal) (smallest_off b bidder) e refl)
 
-pub not_in_book : (b : BookEntries) (bidder : ℕ) → book_verdict b ≡ Accepted → any (is_of bidder) b.bids ≡ false → no_amount (Refused UnknownBidder 0) ≡ too_dear_of b bidder
+-- the book's own, and then that the bidder is not in it
+pub own_refusal : (b : BookEntries) (bidder : ℕ) (refusal : Refusal) → book_verdict b ≡ Err refusal → (res : Result (Option CentsPerBlank) Refusal) → res ≡ Err refusal
+    → too_dear_told res ≡ too_dear_of b bidder
 unfolding too_dear_verdict
-not_in_book b bidder accepted e = answer b bidder (Refused UnknownBidder 0) (smallest_off b bidder) (rw (accepted, e)) refl
+own_refusal b bidder refusal e = refused b bidder refusal (rw e)
+
+pub not_in_book : (b : BookEntries) (bidder : ℕ) → book_verdict b ≡ Accepted → any (is_of bidder) b.bids ≡ false → (res : Result (Option CentsPerBlank) Refusal)
+    → res ≡ Err (record { rule = UnknownBidder; place = 0 }) → too_dear_told res ≡ too_dear_of b bidder
+unfolding too_dear_verdict
+not_in_book b bidder accepted e = refused b bidder (record { rule = UnknownBidder; place = 0 }) (rw (accepted, e))
 
 module _
     (b : BookEntries) (bidder i : ℕ) (accepted : book_verdict b ≡ Accepted) (named : Named bidder b.bids i)
@@ -66,8 +73,9 @@ module _
     unfolding too_dear_verdict
     verdict_is = rw (accepted, named_in bidder b.bids i named, cover_off) (only _)
 
-    pub not_covered : award_of_book (book_off b bidder most) ≡ none → no_amount (Refused NotCovered 0) ≡ too_dear_of b bidder
-    not_covered e = answer b bidder (Refused NotCovered 0) (smallest_off b bidder) (verdict_is ∙ rw e) refl
+    pub not_covered : award_of_book (book_off b bidder most) ≡ none → (res : Result (Option CentsPerBlank) Refusal) → res ≡ Err (record { rule = NotCovered; place = 0 })
+        → too_dear_told res ≡ too_dear_of b bidder
+    not_covered e = refused b bidder (record { rule = NotCovered; place = 0 }) (verdict_is ∙ rw e)
 
     -- where that one sells nothing, none does
     none_wins : sells_with b bidder most ≡ false → (cents : ℕ) → wins_with b bidder cents ≡ false
@@ -83,7 +91,7 @@ module _
             nothing true g = absurd (false≢true (sym e ∙ rises b bidder i accepted named most leaves cents most (leb-true cents most f) (omega arith) g))
 
     module _ (award : Priced) (is_award : award_of_book (book_off b bidder most) ≡ some award) where
-      pub no_discount : sells_with b bidder most ≡ false → no_amount Accepted ≡ too_dear_of b bidder
+      pub no_discount : sells_with b bidder most ≡ false → too_dear_told (Ok None) ≡ too_dear_of b bidder
       unfolding smallest_off
       no_discount e = answer b bidder Accepted none (verdict_is ∙ rw is_award) (none_found (wins_with b bidder) 1000001 (λ k h. none_wins e k))
 
@@ -93,7 +101,7 @@ module _
       up_to_most cents w = leb-true cents most (sym (leaves cents) ∙ both_left (leaves_accepted b bidder cents) (sells_with b bidder cents) w)
 
       pub discount_is : most ≤ 1000000 → (cents : ℕ) → Least (wins_with b bidder) cents
-          → record { verdict = Accepted; discount = Amount (record { 0 = cents }) } ≡ too_dear_of b bidder
+          → too_dear_told (Ok (Some (record { 0 = cents }))) ≡ too_dear_of b bidder
       unfolding smallest_off
       discount_is small cents l =
           let h = up_to_most cents l.holds in

@@ -1,10 +1,11 @@
 -- What the search finds for the book with a discount, and whether the bidder sells something in it. Assumes nothing.
 use Prim.Native.Nat.{ℕ, ◌<◌}
 use native.Mathlib.Omega.{arith}
-use mathlib.Core.Bool.{true, false}
+use mathlib.Core.Bool.{false}
 use mathlib.Core.Option.{some, none}
 use mathlib.Core.Path.{◌≡◌, sym, ap, ◌∙◌, subst}
 use lib.Dec.{leb, ltb}
+use Rattle.std.specs.Prelude.{Option, Some, None}
 use lib.ListN.{length, get_or, take}
 use Rattle.refusal.specs.Verdict.{Accepted}
 use Rattle.book.specs.declared.Book.{Book}
@@ -14,7 +15,7 @@ use Rattle.book.proofs.Records.{no_bid}
 use Rattle.book.proofs.Bids.{entry_at}
 use Rattle.supply.specs.Supply.{supplies_of}
 use Rattle.divisions.specs.Award.{award_of, award_of_book}
-use Rattle.comparison.specs.declared.MaybeDivision.{MaybeDivision}
+use Rattle.comparison.specs.declared.PricedDivision.{PricedDivision}
 use Rattle.comparison.specs.Records.{blanks_in, division_in, found}
 use Rattle.search.specs.Searchable.{Searchable}
 use Rattle.search.proofs.Found.{searchable, quantity_at}
@@ -33,7 +34,7 @@ module _ (book : Book) (at cents : ℕ) where
       rw (taken can.bidder can.named)
       (searchable (book_off (book_entries book) can.bidder cents) (leaves_accepted_lem (book_entries book) can.bidder cents can.leaves))
 
-  pub award_off : (changed : Book) (r : MaybeDivision) → TakenOff book at cents changed
+  pub award_off : (changed : Book) (r : Option PricedDivision) → TakenOff book at cents changed
       → found changed.count r ≡ award_of changed.order (supplies_of (book_entries changed).bids) → AwardOff book at cents r
   unfolding award_of_book book_off
   award_off changed r taken searched bidder named =
@@ -41,24 +42,27 @@ module _ (book : Book) (at cents : ℕ) where
       let count : changed.count ≡ book.count = ap (λ (b : BookEntries). b.count) same in
       ap (λ (n : ℕ). found n r) (sym count) ∙ searched ∙ ap award_of_book same
 
-  module _ (best : MaybeDivision) (is : AwardOff book at cents best) where
-    pub no_award_lem : best.found ≡ false → ForBidder book at (λ bidder. award_of_book (book_off (book_entries book) bidder cents) ≡ none)
-    no_award_lem e bidder named = sym (is bidder named) ∙ rw e
+  -- no award
+  module _ (is : AwardOff book at cents None) where
+    pub no_award_lem : ForBidder book at (λ bidder. award_of_book (book_off (book_entries book) bidder cents) ≡ none)
+    no_award_lem bidder named = sym (is bidder named)
 
-    pub an_award : best.found ≡ true → ForBidder book at (λ bidder. award_of_book (book_off (book_entries book) bidder cents) ≡ some (division_in book.count best))
-    an_award e bidder named = sym (is bidder named) ∙ rw e
-
-    pub sells_none : best.found ≡ false → SellsOff book at cents false
+    pub sells_none : SellsOff book at cents false
     unfolding sells_with
-    sells_none e bidder named = ap (sells_in bidder (book_entries book).bids) (sym (no_award_lem e bidder named))
+    sells_none bidder named = ap (sells_in bidder (book_entries book).bids) (is bidder named)
 
-    pub sells_some : best.found ≡ true → at < book.count → SellsOff book at cents (ltb 0 (get_or best.quantities at (record { 0 = 0 })).0)
+  -- an award
+  module _ (best : PricedDivision) (is : AwardOff book at cents (Some best)) where
+    pub an_award : ForBidder book at (λ bidder. award_of_book (book_off (book_entries book) bidder cents) ≡ some (division_in book.count best))
+    an_award bidder named = sym (is bidder named)
+
+    pub sells_some : at < book.count → SellsOff book at cents (ltb 0 (get_or best.quantities at (record { 0 = 0 })).0)
     unfolding sells_with
-    sells_some e h bidder named =
+    sells_some h bidder named =
         let quantity =
         sold_at bidder (book_entries book).bids at (take book.count (blanks_in best.quantities)) named
         ∙ quantity_at book.count best.quantities at h in
-        ap (ltb 0) (sym quantity) ∙ ap (sells_in bidder (book_entries book).bids) (sym (an_award e bidder named))
+        ap (ltb 0) (sym quantity) ∙ ap (sells_in bidder (book_entries book).bids) (is bidder named)
 
 -- the discounts that leave an accepted book, by the largest of the bid
 pub leaves_of : (book : Book) (at most : ℕ) → book_verdict (book_entries book) ≡ Accepted → length book.bids ≡ 8

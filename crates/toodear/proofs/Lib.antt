@@ -1,4 +1,5 @@
 pub mod Sold
+pub mod Places
 pub mod Rises
 pub mod Awards
 pub mod Halved

@@ -1,15 +1,14 @@
 -- What the named bidder sells is the quantity at the index of its bid. Assumes nothing.
 use Prim.Native.Nat.{ℕ, zero, suc}
 use native.Mathlib.Omega.{arith}
-use mathlib.Core.Bool.{Bool, true, false, ◌||◌}
-use mathlib.Core.List.{List, [], ◌∷◌, map}
-use mathlib.Core.Path.{◌≡◌, refl, sym, ap, ◌∙◌}
+use mathlib.Core.Bool.{true, false}
+use mathlib.Core.List.{List, [], ◌∷◌}
+use mathlib.Core.Path.{◌≡◌, refl, sym, ◌∙◌}
 use borrow.Author.Tests.{eqb-true}
 use lib.ListN.{get_or}
 use Rattle.lists.specs.All.{All}
 use Rattle.lists.specs.Any.{any}
-use Rattle.book.specs.declared.Bid.{Bid}
-use Rattle.book.specs.Entries.{BidEntries, bid_entries}
+use Rattle.book.specs.Entries.{BidEntries}
 use Rattle.discount.specs.Discount.{is_of}
 use Rattle.discount.specs.Named.{Named}
 use Rattle.toodear.specs.TooDear.{sold_by}
@@ -35,12 +34,6 @@ module _ (bidder : ℕ) where
   named_in (b ∷ bs) zero n = rw n.0
   named_in [] i n = elim n [ ]
   named_in (b ∷ bs) (suc i) n = rw n.0 (named_in bs i n.1)
-
-  -- by the records
-  pub any_entries : (bs : List Bid) → any (λ (b : Bid). is_of bidder (bid_entries b)) bs ≡ any (is_of bidder) (map bid_entries bs)
-  unfolding any
-  any_entries [] = refl
-  any_entries (b ∷ bs) = ap (λ (t : Bool). is_of bidder (bid_entries b) || t) (any_entries bs)
 
 -- one bidder has the bid
 pub one_bidder : (a b : ℕ) (bs : List BidEntries) (i : ℕ) → Named a bs i → Named b bs i → a ≡ b

@@ -3,15 +3,15 @@ ghost use Rattle.discount.specs.Asked.{CanTake};
 ghost use Rattle.toodear.specs.Asked.{AwardOff, SellsOff, Winnable, SmallestOff};
 
 use book::Book;
-use comparison::MaybeDivision;
+use comparison::PricedDivision;
+use money::Blanks;
 
 // The award with so many cents off the bid with this index, if there is one. It is pub, as `smallest` is, for the entry.
-pub fn best_off(book: Book, at: usize, cents: u64) -> MaybeDivision
+pub fn best_off(book: Book, at: usize, cents: u64) -> Option<PricedDivision>
     requires { CanTake book at cents }
     ensures { AwardOff book at cents result }
 {
-    let changed = discount::book_off(book, at, cents);
-    search::best_division(changed)
+    search::best_division(discount::book_off(book, at, cents))
 }
 
 // Whether the bidder sells something then.
@@ -19,16 +19,15 @@ fn sells(book: Book, at: usize, cents: u64) -> bool
     requires { CanTake book at cents }
     ensures { SellsOff book at cents result }
 {
-    let best = best_off(book, at, cents);
-    if !best.found {
-        return false;
+    match best_off(book, at, cents) {
+        Some(best) => Blanks(0) < best.quantities[at],
+        None => false,
     }
-    let quantity = best.quantities[at];
-    0 < quantity.0
 }
 
 // The smallest discount that sells something, where `most` does: what sells goes on selling with a larger discount, so that one test
-// halves the numbers that are left. At most 20 tests are made: that `left` does not pass 0 is proved.
+// halves the numbers that are left. At most 20 tests are made: that `left` does not pass 0 is proved. The loop counts no index, and a
+// `while` says best when it ends.
 pub fn smallest(book: Book, at: usize, most: u64) -> u64
     requires { Winnable book at most }
     ensures { SmallestOff book at result }

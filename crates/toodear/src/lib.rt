@@ -2,100 +2,77 @@
 #![tactic(auto)]
 
 ghost use Rattle.std.specs.Prelude.{◌≡◌};
-ghost use Rattle.refusal.specs.Verdict.{Accepted};
 ghost use Rattle.book.specs.Entries.{book_entries};
-ghost use Rattle.book.specs.Rules.{book_verdict};
-ghost use Rattle.toodear.specs.TooDear.{no_amount, too_dear_of};
+ghost use Rattle.toodear.specs.TooDear.{too_dear_told, too_dear_of};
 ghost use Rattle.toodear.specs.Asked.{PlaceOf, NamedBid, AnswerFor};
 
 mod discounts;
 
-use book::Book;
-use money::CentsPerBlank;
-use refusal::{Rule, Verdict};
+use book::{Bid, Book};
+use money::{Blanks, CentsPerBlank};
+use refusal::{Refusal, Rule, Verdict};
 
-// So many cents off each unit price, or `none` where no discount wins a blank.
-#[derive(Clone, Copy)]
-pub enum Discount {
-    Amount(CentsPerBlank),
-    Nothing,
-}
-
-// The smallest discount that wins; `Nothing` also beside a refusal.
-#[derive(Clone, Copy)]
+// The smallest discount that wins, so many cents off each unit price, or `None` where no discount wins a blank; `None` also beside a
+// refusal.
+#[derive(Clone, Copy, PartialEq, Eq)]
 pub struct TooDear {
     pub verdict: Verdict,
-    pub discount: Discount,
+    pub discount: Option<CentsPerBlank>,
 }
 
-// The index of a bidder's bid, or that the book has none.
-#[derive(Clone, Copy)]
-enum Place {
-    At(usize),
-    Nowhere,
-}
+// For `tender` too.
+impl From<Result<Option<CentsPerBlank>, Refusal>> for TooDear {
+    ghost from_gives = { λ discount answer. answer ≡ too_dear_told discount };
 
-// No amount: beside a refusal, and for a bidder whom no discount wins a blank.
-pub fn no_amount(verdict: Verdict) -> TooDear
-    ensures { result ≡ no_amount verdict }
-{
-    TooDear {
-        verdict,
-        discount: Discount::Nothing,
-    }
-}
-
-// In an accepted book no two bids are of one bidder.
-fn find(book: Book, bidder: u64) -> Place
-    requires { book_verdict (book_entries book) ≡ Accepted }
-    ensures { PlaceOf bidder (book_entries book).bids result }
-{
-    let mut i: usize = 0;
-    while i < book.count {
-        let bid = book.bids[i];
-        if bid.bidder == bidder {
-            return Place::At(i);
+    fn from(discount: Result<Option<CentsPerBlank>, Refusal>) -> TooDear {
+        match discount {
+            Ok(discount) => TooDear {
+                verdict: Ok(()),
+                discount,
+            },
+            Err(refusal) => TooDear {
+                verdict: Err(refusal),
+                discount: None,
+            },
         }
-        i += 1;
     }
-    Place::Nowhere
+}
+
+// The index of the bidder's bid, if it has one here.
+fn find(bids: &[Bid], bidder: u64) -> Option<usize>
+    ensures { PlaceOf bidder bids.now result }
+{
+    bids.iter().position(|bid| bid.bidder == bidder)
 }
 
 // The largest discount that leaves an accepted book sells the most: where it sells nothing, none does, and where there is no award
 // with it, there is none without it. Else the smallest that sells is found by halving.
-fn for_bid(book: Book, at: usize) -> TooDear
+fn for_bid(book: Book, at: usize) -> Result<Option<CentsPerBlank>, Refusal>
     requires { NamedBid book at }
     ensures { AnswerFor book at result }
 {
-    let bid = book.bids[at];
-    let most = discount::largest(bid);
-    let best = discounts::best_off(book, at, most);
-    if !best.found {
-        return no_amount(Err(Rule::NotCovered.at(0)));
-    }
-    let quantity = best.quantities[at];
-    if quantity.0 == 0 {
-        return no_amount(Ok(()));
+    let most = discount::largest(book.bids[at]);
+    let best = discounts::best_off(book, at, most).ok_or(Rule::NotCovered.at(0))?;
+    let sells_nothing = best.quantities[at] == Blanks(0);
+    if sells_nothing {
+        return Ok(None);
     }
     let cents = discounts::smallest(book, at, most);
-    TooDear {
-        verdict: Ok(()),
-        discount: Discount::Amount(CentsPerBlank(cents)),
-    }
+    Ok(Some(CentsPerBlank(cents)))
 }
 
-// How much too dear a bidder was, of any record and any number: refused by rules 3 to 8 as `bookrules::check` refuses the record, then
-// by 13 where the bidder is not in the book, then by 9.
+// Refused by rules 3 to 8 as `bookrules::check` refuses the record, then by 13 where the bidder is not in the book, then by 9.
+fn smallest_discount(book: Book, bidder: u64) -> Result<Option<CentsPerBlank>, Refusal>
+    ensures { too_dear_told result ≡ too_dear_of (book_entries book) bidder }
+{
+    bookrules::check(book)?;
+    let at = find(book.listed(), bidder).ok_or(Rule::UnknownBidder.at(0))?;
+    for_bid(book, at)
+}
+
+// How much too dear a bidder was, of any record and any number.
 pub fn too_dear(book: Book, bidder: u64) -> TooDear
     ensures { result ≡ too_dear_of (book_entries book) bidder }
 {
-    let verdict = bookrules::check(book);
-    if let Err(_) = verdict {
-        return no_amount(verdict);
-    }
-    let place = find(book, bidder);
-    let Place::At(at) = place else {
-        return no_amount(Err(Rule::UnknownBidder.at(0)));
-    };
-    for_bid(book, at)
+    smallest_discount(book, bidder).into()
 }

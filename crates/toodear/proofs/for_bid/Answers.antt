@@ -1,18 +1,20 @@
 -- The discounts that leave an accepted book are those up to the largest, and what that one sells decides which answer is due.
-use borrow.Author.Tests.{le-leb, lt-ltb}
+use borrow.Author.Tests.{le-leb, lt-ltb, eqb-true, eqb-false}
 use lib.Dec.{leb, ltb}
-use Rattle.std.proofs.Common.{ℕ, true, ◌≡◌, ◌≤◌, ◌<◌, length, get_or, arith, ap, sym, ◌∙◌}
+use Rattle.std.proofs.Common.{ℕ, Some, Err, ◌≡◌, ◌≤◌, ◌<◌, length, arith, ap, sym, ◌∙◌}
+use Rattle.std.specs.Option.{ok_or}
+use Rattle.std.proofs.lemmas.Result.{err_from_is_err_and}
+use Rattle.comparison.specs.Records.{found}
 use Rattle.lists.proofs.Slices.{length_held}
 use Rattle.book.specs.Entries.{book_entries}
 use Rattle.book.proofs.Accepted.{bid_at_lem}
 use Rattle.discount.specs.Discount.{leaves_accepted}
 use Rattle.discount.proofs.Bidder.{named_record}
-use Rattle.toodear.specs.TooDear.{sells_with}
-use Rattle.toodear.specs.Asked.{ForBidder}
+use Rattle.toodear.specs.Asked.{ForBidder, AwardOff}
 use Rattle.toodear.proofs.Awards.{no_award_lem, an_award, sells_some, leaves_of}
 use Rattle.toodear.proofs.Answers.{not_covered, no_discount, discount_is}
 use Rattle.toodear.proofs.for_bid.Goals as goal
-use Rattle.toodear.proofs.for_bid.Goals.{Start, After-largest-most, After-best_off-best}
+use Rattle.toodear.proofs.for_bid.Goals.{Start, After-largest-most, In_ok-best}
 
 held : (c : Start) → length c.args.book.bids ≡ 8
 held c = search (length_held, c.well_formed)
@@ -27,11 +29,9 @@ leaves c =
     let eight : length c.args.book.bids ≡ 8 = search (length_held, c.well_formed) in
     leaves_of c.args.book c.args.at c.largest-most.result c.requires.accepted eight c.largest-most.ensures.largest
 
--- whether the largest of them sells something
-sold : (c : After-best_off-best) → c.best_off-best.result.found ≡ true → c.args.at < c.args.book.count
-    → ForBidder c.args.book c.args.at
-    (λ bidder. ltb 0 (get_or c.best_off-best.result.quantities c.args.at (record { 0 = 0 })).0 ≡ sells_with (book_entries c.args.book) bidder c.largest-most.result)
-sold c = sells_some c.args.book c.args.at c.largest-most.result c.best_off-best.result c.best_off-best.ensures
+-- the award with the largest of them
+best : (c : In_ok-best) → AwardOff c.args.book c.args.at c.largest-most.result (Some c.in_ok-best.best)
+best c bidder named = ap (found c.args.book.count) (sym c.in_ok-best.ensures.ok_part) ∙ c.best_off.ensures bidder named
 
 pub offset_bounds-book-at : goal.offset_bounds-book-at
 offset_bounds-book-at c = omega (arith, bid (goal.at.offset_bounds-book-at c).Start)
@@ -44,21 +44,24 @@ largest-most-requires c =
     let s = (goal.at.largest-most-requires c).Start in
     bid_at_lem c.args.book c.requires.accepted (held s) c.args.at (bid s).0
 
-pub best_off-best-requires : goal.best_off-best-requires
-best_off-best-requires c =
+pub best_off-requires : goal.best_off-requires
+best_off-requires c =
     let p = c.requires in
     let most = c.largest-most.result in
-    let left = leaves (goal.at.best_off-best-requires c).After-largest-most p.bidder p.named most in
+    let left = leaves (goal.at.best_off-requires c).After-largest-most p.bidder p.named most in
     record { bidder = p.bidder; accepted = p.accepted; named = p.named; leaves = left ∙ le-leb most most (omega arith) }
 
-pub returns-then-not-best : goal.returns-then-not-best
-returns-then-not-best c bidder named =
+pub returns-in_err-best : goal.returns-in_err-best
+returns-in_err-best c bidder named =
     let most = c.largest-most.result in
-    let best = c.best_off-best in
-    let left = leaves (goal.at.returns-then-not-best c).After-largest-most bidder named in
-    c.no_amount.ensures
-    ∙ not_covered (book_entries c.args.book) bidder c.args.at c.requires.accepted named most left
-    (no_award_lem c.args.book c.args.at most best.result best.ensures c.if-not-best.true bidder named)
+    let left = leaves (goal.at.returns-in_err-best c).After-largest-most bidder named in
+    let (refusal, is, same) = err_from_is_err_and c.from_residual.result c.from_residual.ensures.1 in
+    let none = c.in_err-best.ensures.ok_part in
+    let told = c.in_err-best.ensures.value ∙ ap (λ division. ok_or division c.at.result) none in
+    let refused : c.in_err-best.field-0.0 ≡ c.at.result = cc in
+    not_covered (book_entries c.args.book) bidder c.args.at c.requires.accepted named most left
+    (no_award_lem c.args.book c.args.at most (λ n m. ap (found c.args.book.count) (sym none) ∙ c.best_off.ensures n m) bidder named)
+    _ (is ∙ ap Err (same ∙ refused ∙ c.at.ensures))
 
 pub offset_bounds-best-at : goal.offset_bounds-best-at
 offset_bounds-best-at c = omega (arith, bid (goal.at.offset_bounds-best-at c).Start)
@@ -66,32 +69,33 @@ offset_bounds-best-at c = omega (arith, bid (goal.at.offset_bounds-best-at c).St
 pub bounds-best-at : goal.bounds-best-at
 bounds-best-at c = omega (arith, bid (goal.at.bounds-best-at c).Start)
 
-pub returns-then-quantity-eq0 : goal.returns-then-quantity-eq0
-returns-then-quantity-eq0 c bidder named =
-    let at = goal.at.returns-then-quantity-eq0 c in
+pub returns-then-sells_nothing : goal.returns-then-sells_nothing
+returns-then-sells_nothing c bidder named =
+    let at = goal.at.returns-then-sells_nothing c in
     let most = c.largest-most.result in
-    let best = c.best_off-best in
-    let award = an_award c.args.book c.args.at most best.result best.ensures c.if-not-best.false bidder named in
-    let none = sym (sold at.After-best_off-best c.if-not-best.false (bid at.Start).0 bidder named) ∙ ap (ltb 0) c.if-quantity-eq0.true in
-    c.no_amount-then-quantity-eq0.ensures
-    ∙ no_discount (book_entries c.args.book) bidder c.args.at c.requires.accepted named most (leaves at.After-largest-most bidder named) _ award none
+    let award = an_award c.args.book c.args.at most c.in_ok-best.best (best at.In_ok-best) bidder named in
+    let sold = sells_some c.args.book c.args.at most c.in_ok-best.best (best at.In_ok-best) (bid at.Start).0 bidder named in
+    let nothing = eqb-true _ 0 (sym c.eq-sells_nothing.ensures ∙ c.if-sells_nothing.true) in
+    no_discount (book_entries c.args.book) bidder c.args.at c.requires.accepted named most (leaves at.After-largest-most bidder named) _ award
+    (sym sold ∙ ap (ltb 0) nothing)
 
 pub smallest-cents-requires : goal.smallest-cents-requires
 smallest-cents-requires c =
     let at = goal.at.smallest-cents-requires c in
     let p = c.requires in
+    let sold = sells_some c.args.book c.args.at c.largest-most.result c.in_ok-best.best (best at.In_ok-best) (bid at.Start).0 p.bidder p.named in
+    let some = eqb-false _ 0 (sym c.eq-sells_nothing.ensures ∙ c.if-sells_nothing.false) in
     record {
       bid = p;
       leaves = leaves at.After-largest-most p.bidder p.named;
       small = c.largest-most.ensures.upper_bound;
-      sells = sym (sold at.After-best_off-best c.if-not-best.false (bid at.Start).0 p.bidder p.named) ∙ lt-ltb 0 _ (omega arith);
+      sells = sym sold ∙ lt-ltb 0 _ (omega arith);
     }
 
 pub returns : goal.returns
 returns c bidder named =
+    let at = goal.at.returns c in
     let most = c.largest-most in
-    let best = c.best_off-best in
-    let left = leaves (goal.at.returns c).After-largest-most bidder named in
-    let award = an_award c.args.book c.args.at most.result best.result best.ensures c.if-not-best.false bidder named in
-    discount_is (book_entries c.args.book) bidder c.args.at c.requires.accepted named most.result left _ award most.ensures.upper_bound c.smallest-cents.result
-    (c.smallest-cents.ensures bidder named)
+    let award = an_award c.args.book c.args.at most.result c.in_ok-best.best (best at.In_ok-best) bidder named in
+    discount_is (book_entries c.args.book) bidder c.args.at c.requires.accepted named most.result (leaves at.After-largest-most bidder named) _ award
+    most.ensures.upper_bound c.smallest-cents.result (c.smallest-cents.ensures bidder named)

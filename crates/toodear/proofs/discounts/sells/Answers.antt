@@ -1,5 +1,9 @@
 -- The bidder sells what the award with the discount has at the index of its bid, and nothing where there is no award.
-use Rattle.std.proofs.Common.{◌≡◌, ◌≤◌, ◌<◌, length, arith}
+use lib.Dec.{ltb}
+use Rattle.std.specs.Ordering.{is_lt, nat_cmp}
+use Rattle.std.proofs.lemmas.Grind.{common_steps}
+use Rattle.std.proofs.lemmas.Bool.Decides.{nat_tests}
+use Rattle.std.proofs.Common.{ℕ, ◌≡◌, ◌≤◌, ◌<◌, length, arith, ◌∙◌}
 use Rattle.lists.proofs.Slices.{length_held}
 use Rattle.discount.proofs.Bidder.{named_record}
 use Rattle.toodear.proofs.Awards.{sells_none, sells_some}
@@ -11,10 +15,12 @@ bid c =
     let eight : length c.args.book.bids ≡ 8 = search (length_held, c.well_formed) in
     named_record c.args.book c.requires.bidder c.args.at c.requires.accepted eight c.requires.named
 
-pub returns-then-not-best : goal.returns-then-not-best
-returns-then-not-best c =
-    let best = c.best_off-best in
-    sells_none c.args.book c.args.at c.args.cents best.result best.ensures c.if-not-best.true
+-- the order of amounts is that of their numbers
+less : (a b : ℕ) → is_lt (nat_cmp a b) ≡ ltb a b
+less a b = grind (arith, common_steps, nat_tests)
+
+pub returns-in-None : goal.returns-in-None
+returns-in-None c = sells_none c.args.book c.args.at c.args.cents c.in-None.ensures
 
 pub offset_bounds-best-at : goal.offset_bounds-best-at
 offset_bounds-best-at c = omega (arith, bid (goal.at.offset_bounds-best-at c).Start)
@@ -22,7 +28,6 @@ offset_bounds-best-at c = omega (arith, bid (goal.at.offset_bounds-best-at c).St
 pub bounds-best-at : goal.bounds-best-at
 bounds-best-at c = omega (arith, bid (goal.at.bounds-best-at c).Start)
 
-pub returns : goal.returns
-returns c =
-    let best = c.best_off-best in
-    sells_some c.args.book c.args.at c.args.cents best.result best.ensures c.if-not-best.false (bid (goal.at.returns c).Start).0
+pub returns-in-Some : goal.returns-in-Some
+returns-in-Some c bidder named =
+    c.lt.ensures ∙ less 0 _ ∙ sells_some c.args.book c.args.at c.args.cents c.in-Some.best c.in-Some.ensures (bid (goal.at.returns-in-Some c).Start).0 bidder named
