@@ -13,8 +13,6 @@ pub mod Signed
 pub mod Whole
 pub mod Place
 pub mod Items
-pub mod Repeat
-pub mod Collecting
 pub mod Framed
 pub mod Spaced
 pub mod Column

@@ -1,16 +1,16 @@
 -- Laws of forms at places of a text. Assumes nothing.
-use Prim.Native.Nat.{ℕ, ◌+◌, ◌-◌, ◌≤◌}
+use Prim.Native.Nat.{ℕ, ◌+◌, ◌-◌}
 use native.Mathlib.Omega.{arith}
 use mathlib.Core.Bool.{Bool, true, false, true≢false}
 use mathlib.Core.List.{List, [], ◌∷◌}
 use mathlib.Core.Logic.{inl, inr}
-use mathlib.Core.Path.{◌≡◌, refl, sym, ap, ◌∙◌, subst}
+use mathlib.Core.Path.{◌≡◌, refl, sym, ap, ◌∙◌}
 use lib.ListN.{length, drop, length-drop, length-append}
 use lib.Seq.{drop-drop}
 use Rattle.forms.specs.Form.{stopped, after, Form}
 use Rattle.forms.specs.Tests.{starts_with}
 use Rattle.forms.specs.Combined.{then_parse, sequence, via, either}
-use Rattle.forms.specs.Place.{Found, Stops, Gives, Reads}
+use Rattle.forms.specs.Place.{Found, Stops, Gives}
 use Rattle.forms.proofs.Form.{Laws}
 
 module _ {A : Type 0} {p : Form A} (P : Laws p) (t : List ℕ) where
@@ -28,34 +28,6 @@ module _ {A : Type 0} {p : Form A} (P : Laws p) (t : List ℕ) where
 
   pub valid : {i e : ℕ} {a : A} → Found p t i a e → p.Valid a
   valid {i} {e} {a} f = (P.sound (drop i t) a (drop e t) f.finds).0
-
-module _ {A : Type 0} (p : Form A) (t : List ℕ) where
-  gives_within : (i e : ℕ) (a : A) (stop : Bool) → Gives p t i a e stop → e ≤ length t
-  gives_within i e a false g = g.to
-  gives_within i e a true g = g.to
-
-  -- parsing that had stopped stays where it is; else it does what it does
-  pub reads_still : (i : ℕ) (before : Bool) (a : A) → before ≡ true → Reads p t i before a i before
-  reads_still i false a e = absurd (true≢false (sym e))
-  reads_still i true a e = (refl, refl)
-
-  pub reads_going : (i : ℕ) (before : Bool) (a : A) (e : ℕ) (stop : Bool) → before ≡ false → Gives p t i a e stop → Reads p t i before a e stop
-  reads_going i before a e stop q g = subst (λ (b : Bool). Reads p t i b a e stop) (sym q) g
-
-  -- a place stays in the text
-  pub reads_within : (i : ℕ) (before : Bool) (a : A) (e : ℕ) (stop : Bool) → i ≤ length t → Reads p t i before a e stop → e ≤ length t
-  reads_within i false a e stop h g = gives_within i e a stop g
-  reads_within i true a e stop h g = omega (arith, g.0)
-
-  -- and never goes back
-  pub reads_from : (i : ℕ) (a : A) (e : ℕ) (stop : Bool) → Gives p t i a e stop → i ≤ e
-  reads_from i a e false g = g.from
-  reads_from i a e true g = g.from
-
-  -- where it goes on, it had gone on before
-  pub reads_found : (i : ℕ) (before : Bool) (a : A) (e : ℕ) (stop : Bool) → stop ≡ false → Reads p t i before a e stop → (before ≡ false) × Found p t i a e
-  reads_found i false a e stop q g = (refl, subst (Gives p t i a e) q g)
-  reads_found i true a e stop q g = absurd (true≢false (sym g.1 ∙ q))
 
 -- one after the other
 module _ {A B : Type 0} {p : Form A} (P : Laws p) (q : Form B) (t : List ℕ) where
@@ -78,20 +50,6 @@ module _ {A B : Type 0} {p : Form A} (P : Laws p) (q : Form B) (t : List ℕ) wh
   pub stops_first : {i e : ℕ} → Stops p t i e → Stops (sequence p q) t i e
   stops_first s = record { finds = ap (then_parse p q) s.finds; from = s.from; to = s.to }
 
-  pub reads_both : (i : ℕ) (before : Bool) (a : A) (e : ℕ) (mid : Bool) (b : B) (g : ℕ) (stop : Bool) → Reads p t i before a e mid
-      → Reads q t e mid b g stop
-      → Reads (sequence p q) t i before (a, b) g stop
-  reads_both i true a e mid b g stop x y = after_stop mid x.1 y
-    where
-      after_stop : (m : Bool) → m ≡ true → Reads q t e m b g stop → (g ≡ i) × (stop ≡ true)
-      after_stop false k y = absurd (true≢false (sym k))
-      after_stop true k y = (y.0 ∙ x.0, y.1)
-  reads_both i false a e false b g false x y = found_both x y
-  reads_both i false a e false b g true x y = stops_second x y
-  reads_both i false a e true b g stop x y =
-      subst (λ (w : Bool). Gives (sequence p q) t i (a, b) g w) (sym y.1)
-      (subst (λ (k : ℕ). Stops (sequence p q) t i k) (sym y.0) (stops_first x))
-
 -- said of another value
 module _ {A B : Type 0} (p : Form A) (f : A → B) (Valid : B → Type 0) (text : B → List ℕ) (t : List ℕ) where
   abbrev Q : Form B
@@ -104,14 +62,6 @@ module _ {A B : Type 0} (p : Form A) (f : A → B) (Valid : B → Type 0) (text 
   stops_via {i} {e} x =
       let z : 0 + (e - i) ≡ e - i = omega arith in
       record { finds = ap (after 0 f) x.finds ∙ ap (λ (n : ℕ). stopped n) z; from = x.from; to = x.to }
-
-  gives_via : (i : ℕ) (a : A) (e : ℕ) (stop : Bool) → Gives p t i a e stop → Gives Q t i (f a) e stop
-  gives_via i a e false x = found_via x
-  gives_via i a e true x = stops_via x
-
-  pub reads_via : (i : ℕ) (before : Bool) (a : A) (e : ℕ) (stop : Bool) → Reads p t i before a e stop → Reads Q t i before (f a) e stop
-  reads_via i true a e stop x = x
-  reads_via i false a e stop x = gives_via i a e stop x
 
 -- one of two, by the next byte
 module _ {A B : Type 0} (x : ℕ) (p : Form A) (q : Form B) (t : List ℕ) (i : ℕ) where

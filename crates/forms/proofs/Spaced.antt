@@ -1,7 +1,6 @@
 -- The laws of numbers with one space between two of them. Assumes nothing.
 use Prim.Native.Nat.{ℕ, zero, suc, ◌<◌}
 use native.Mathlib.Omega.{arith}
-use mathlib.Core.Bool.{Bool}
 use mathlib.Core.List.{List, ◌++◌}
 use mathlib.Core.Path.{◌≡◌, refl, ap₂}
 use lib.ListN.{set}
@@ -14,13 +13,11 @@ use Rattle.forms.specs.Word.{word}
 use Rattle.forms.specs.Number.{number}
 use Rattle.forms.specs.Combined.{sequence}
 use Rattle.forms.specs.Spaced.{spaced, Numbers, numbers, numbers_in}
-use Rattle.forms.specs.Place.{Reads}
 use Rattle.forms.proofs.Form.{Laws, any}
 use Rattle.forms.proofs.Word.{word_laws}
 use Rattle.forms.proofs.Number.{number_laws}
 use Rattle.forms.proofs.Sequence.{sequence_laws}
 use Rattle.forms.proofs.Via.{Same, via_laws}
-use Rattle.forms.proofs.Place.{reads_both, reads_via}
 
 module _ {A : Type 0} {p : Form A} (P : Laws p) where
   abbrev parts : Form ((A × Unit {0}) × ℕ)
@@ -51,17 +48,3 @@ pub numbers_kept : (n k v : ℕ) (xs : List ℕ) → n < k → numbers_in n (set
 numbers_kept zero k v xs h = get_or-set_other xs k 0 v 0 (omega arith)
 numbers_kept (suc n) k v xs h =
     ap₂ (λ (x : Numbers n) (y : ℕ). (x, y)) (numbers_kept n k v xs (omega arith)) (get_or-set_other xs k (suc n) v 0 (omega arith))
-
--- read one after the other
-module _ (t : List ℕ) where
-  pub reads_further : (n i : ℕ) (before : Bool) (x : Numbers n) (e₀ : ℕ) (mid₀ : Bool) (e₁ : ℕ) (mid₁ : Bool) (v e : ℕ) (stop : Bool)
-      → Reads (numbers n) t i before x e₀ mid₀
-      → Reads (word (ascii " ")) t e₀ mid₀ tt e₁ mid₁
-      → Reads (number 0) t e₁ mid₁ v e stop
-      → Reads (numbers (suc n)) t i before (x, v) e stop
-  reads_further n i before x e₀ mid₀ e₁ mid₁ v e stop a b c =
-      let P = numbers_laws n in
-      let space = word (ascii " ") in
-      let both = sequence_laws P (word_laws (ascii " ")) (λ b r v h. numbers_end n 32 (λ l k. omega arith)) in
-      reads_via (parts P) (λ x. (x.0.0, x.1)) (numbers (suc n)).Valid (numbers (suc n)).text t i before ((x, tt), v) e stop
-      (reads_both both (number 0) t i before (x, tt) e₁ mid₁ v e stop (reads_both P space t i before x e₀ mid₀ tt e₁ mid₁ a b) c)

@@ -1,4 +1,4 @@
--- Forms at places of a text, as code parses them: from a place, or not at all where parsing has stopped before.
+-- Forms at places of a text, as code parses them.
 use Rattle.std.specs.Prelude.{ℕ, ◌-◌, ◌≤◌, Bool, true, false, List, ◌≡◌, length, drop}
 use Rattle.forms.specs.Form.{parsed, stopped, Form}
 
@@ -19,9 +19,3 @@ module _ {A : Type 0} (p : Form A) (t : List ℕ) where
   abbrev pub Gives : ℕ → A → ℕ → Bool → Type 0
   Gives i a e false = Found i a e
   Gives i a e true = Stops i e
-
-  -- Parsing from the place i, where it had stopped before or not, gave the value a and now stands at e. Where it had stopped,
-  -- it stands there still; where it has stopped, the value is of no meaning.
-  abbrev pub Reads : ℕ → Bool → A → ℕ → Bool → Type 0
-  Reads i false a e stop = Gives i a e stop
-  Reads i true a e stop = (e ≡ i) × (stop ≡ true)
