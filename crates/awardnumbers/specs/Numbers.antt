@@ -1,7 +1,8 @@
 -- The award of a text as numbers, for C: what every text and every lent list of numbers gets. No total is negative
 -- (endtoend/proofs/Fits.antt: `text_total_up_to`), so that no sign is lost.
-use Rattle.std.specs.Prelude.{ℕ, ◌*◌, ◌≤◌, List, [], ◌∷◌, ◌≡◌, leb, nat_abs, length}
+use Rattle.std.specs.Prelude.{ℕ, ◌*◌, ◌≤◌, List, [], ◌∷◌, ◌≡◌, leb, nat_abs, length, Result, Ok, Err}
 use Rattle.refusal.specs.Checks.{unless, first_of, when_accepted}
+use Rattle.refusal.specs.declared.Refusal.{Refusal}
 use Rattle.refusal.specs.declared.Rule.TheVariants.{OutputLength}
 use Rattle.refusal.specs.Verdict.{Verdict}
 use Rattle.refusal.specs.Verdict.{Accepted}
@@ -10,6 +11,7 @@ use Rattle.clearing.specs.declared.Clearing.{Clearing}
 use Rattle.tender.specs.FromText.{clear_text}
 use Rattle.rownumbers.specs.RowNumbers.{award_numbers}
 use Rattle.awardnumbers.specs.declared.AwardNumbers.{AwardNumbers}
+use Rattle.awardnumbers.specs.declared.Numbers.{Numbers}
 
 -- ---- of what was cleared
 
@@ -35,6 +37,11 @@ numbers_answer cleared size = record {
   total = numbers_total cleared size;
   count = numbers_count cleared size;
 }
+
+-- what is answered of the numbers that were put, or of the refusal
+abbrev pub numbers_told : Result Numbers Refusal → AwardNumbers
+numbers_told (Ok numbers) = record { verdict = Accepted; bought = numbers.bought; total = numbers.total; count = numbers.count }
+numbers_told (Err refusal) = record { verdict = Err refusal; bought = 0; total = 0; count = 0 }
 
 -- the list: the rows, and what was past them; unchanged with a refusal
 unfoldable pub numbers_output : Clearing → List ℕ → List ℕ

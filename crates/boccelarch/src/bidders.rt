@@ -4,6 +4,7 @@ ghost use Rattle.refusal.specs.Number.{number_of, place_of};
 ghost use Rattle.toodear.specs.TooDear.{is_amount, amount_of};
 ghost use Rattle.tender.specs.OfBidder.{too_dear_text};
 
+use crate::refused;
 use toodear::Discount;
 
 fn is_amount(discount: Discount) -> u64
@@ -39,10 +40,7 @@ pub extern "C" fn boccelarch_too_dear(
     ensures cents_after { cents.new ≡ amount_of (too_dear_text text.now bidder).discount }
 {
     let answer = tender::too_dear(text, bidder);
-    let verdict = answer.verdict;
-    let discount = answer.discount;
-    *place = refusal::place(verdict);
-    *found = is_amount(discount);
-    *cents = amount_of(discount);
-    refusal::number(verdict)
+    *found = is_amount(answer.discount);
+    *cents = amount_of(answer.discount);
+    refused(answer.verdict, place)
 }

@@ -12,11 +12,53 @@ ghost use Rattle.awardnumbers.specs.Numbers.{award_verdict, award_bought, award_
 mod bidders;
 mod tables;
 
+use awardnumbers::AwardNumbers;
 pub use bidders::boccelarch_too_dear;
+use output::TextWritten;
+use refusal::Verdict;
 pub use tables::{
     boccelarch_award_by_table, boccelarch_page_by_table, boccelarch_printed_table,
     boccelarch_sheet_by_table, boccelarch_write_table,
 };
+
+// The number and the place of what is refused, or 0 and 0.
+fn refused(verdict: Verdict, place: &mut u64) -> u64
+    ensures value { result ≡ number_of verdict }
+    ensures place_after { place.new ≡ place_of verdict }
+{
+    *place = refusal::place(verdict);
+    refusal::number(verdict)
+}
+
+// What a writer answered.
+fn told(written: TextWritten, place: &mut u64, bytes: &mut u64) -> u64
+    ensures value { result ≡ number_of written.verdict }
+    ensures place_after { place.new ≡ place_of written.verdict }
+    ensures bytes_after { bytes.new ≡ written.bytes }
+{
+    *bytes = written.bytes;
+    refused(written.verdict, place)
+}
+
+// What an award as numbers is answered by, beside its rows.
+fn awarded(
+    answer: AwardNumbers,
+    place: &mut u64,
+    bought: &mut u64,
+    total: &mut u64,
+    count: &mut u64,
+) -> u64
+    ensures value { result ≡ number_of answer.verdict }
+    ensures place_after { place.new ≡ place_of answer.verdict }
+    ensures bought_after { bought.new ≡ answer.bought }
+    ensures total_after { total.new ≡ answer.total }
+    ensures count_after { count.new ≡ answer.count }
+{
+    *bought = answer.bought;
+    *total = answer.total;
+    *count = answer.count;
+    refused(answer.verdict, place)
+}
 
 // The award sheet of a book, and its length.
 #[unsafe(no_mangle)]
@@ -32,10 +74,7 @@ pub extern "C" fn boccelarch_sheet(
     ensures out_after { out.new ≡ sheet_output text.now out.old }
 {
     let sheet = tender::sheet(text, out);
-    let verdict = sheet.verdict;
-    *place = refusal::place(verdict);
-    *bytes = sheet.bytes;
-    refusal::number(verdict)
+    told(sheet, place, bytes)
 }
 
 // The page of the award, and its length.
@@ -52,10 +91,7 @@ pub extern "C" fn boccelarch_page(
     ensures out_after { out.new ≡ page_output text.now out.old }
 {
     let page = tender::page(text, out);
-    let verdict = page.verdict;
-    *place = refusal::place(verdict);
-    *bytes = page.bytes;
-    refusal::number(verdict)
+    told(page, place, bytes)
 }
 
 // The book written out again, and its length.
@@ -72,10 +108,7 @@ pub extern "C" fn boccelarch_write(
     ensures out_after { out.new ≡ book_output text.now out.old }
 {
     let book = tender::write(text, out);
-    let verdict = book.verdict;
-    *place = refusal::place(verdict);
-    *bytes = book.bytes;
-    refusal::number(verdict)
+    told(book, place, bytes)
 }
 
 // How long the book's text is, how many choices of segments it has, and how long its sheet is at most.
@@ -94,12 +127,10 @@ pub extern "C" fn boccelarch_sizes(
     ensures sheet_after { sheet.new ≡ (sizes_text text.now).sheet }
 {
     let figures = tender::sizes(text);
-    let verdict = figures.verdict;
-    *place = refusal::place(verdict);
     *bytes = figures.bytes;
     *choices = figures.choices;
     *sheet = figures.sheet;
-    refusal::number(verdict)
+    refused(figures.verdict, place)
 }
 
 // The price of a proposed split, one quantity for each bid, and 1 if its quantities add up to at least the demand and at most
@@ -118,12 +149,10 @@ pub extern "C" fn boccelarch_split(
     ensures meets_after { meets.new ≡ cond (split_text text.now quantities.now).meets 1 0 }
 {
     let answer = tender::price_split(text, quantities);
-    let verdict = answer.verdict;
-    *place = refusal::place(verdict);
     let cents = answer.price.0;
     *price = cents;
-    *meets = answer.meets as u64;
-    refusal::number(verdict)
+    *meets = u64::from(answer.meets);
+    refused(answer.verdict, place)
 }
 
 // The award as numbers: what is bought, its total, how many bids there are, and seven numbers for each (`row_numbers`).
@@ -144,10 +173,5 @@ pub extern "C" fn boccelarch_award(
     ensures rows_after { rows.new ≡ award_output text.now rows.old }
 {
     let answer = awardnumbers::award(text, rows);
-    let verdict = answer.verdict;
-    *place = refusal::place(verdict);
-    *bought = answer.bought;
-    *total = answer.total;
-    *count = answer.count;
-    refusal::number(verdict)
+    awarded(answer, place, bought, total, count)
 }

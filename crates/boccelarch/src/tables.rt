@@ -8,6 +8,8 @@ ghost use Rattle.tableanswers.specs.TableAnswers.{table_written, table_output, p
 ghost use Rattle.tender.specs.FromText.{cleared_by_table, written_as, output_as};
 ghost use Rattle.awardnumbers.specs.Numbers.{numbers_verdict, numbers_bought, numbers_total, numbers_count, numbers_output};
 
+use crate::{awarded, told};
+
 // The award sheet of a book, sampled by the table, and its length.
 #[unsafe(no_mangle)]
 pub extern "C" fn boccelarch_sheet_by_table(
@@ -23,10 +25,7 @@ pub extern "C" fn boccelarch_sheet_by_table(
     ensures out_after { out.new ≡ output_as sheet_text (cleared_by_table table.now text.now) out.old }
 {
     let sheet = tender::sheet_by_table(table, text, out);
-    let verdict = sheet.verdict;
-    *place = refusal::place(verdict);
-    *bytes = sheet.bytes;
-    refusal::number(verdict)
+    told(sheet, place, bytes)
 }
 
 // The page of the award likewise.
@@ -44,10 +43,7 @@ pub extern "C" fn boccelarch_page_by_table(
     ensures out_after { out.new ≡ output_as page_text (cleared_by_table table.now text.now) out.old }
 {
     let page = tender::page_by_table(table, text, out);
-    let verdict = page.verdict;
-    *place = refusal::place(verdict);
-    *bytes = page.bytes;
-    refusal::number(verdict)
+    told(page, place, bytes)
 }
 
 // The award as numbers likewise.
@@ -69,12 +65,7 @@ pub extern "C" fn boccelarch_award_by_table(
     ensures rows_after { rows.new ≡ numbers_output (cleared_by_table table.now text.now) rows.old }
 {
     let answer = awardnumbers::award_by_table(table, text, rows);
-    let verdict = answer.verdict;
-    *place = refusal::place(verdict);
-    *bought = answer.bought;
-    *total = answer.total;
-    *count = answer.count;
-    refusal::number(verdict)
+    awarded(answer, place, bought, total, count)
 }
 
 // The table written out again, and its length.
@@ -91,10 +82,7 @@ pub extern "C" fn boccelarch_write_table(
     ensures out_after { out.new ≡ table_output table.now out.old }
 {
     let written = tender::write_table(table, out);
-    let verdict = written.verdict;
-    *place = refusal::place(verdict);
-    *bytes = written.bytes;
-    refusal::number(verdict)
+    told(written, place, bytes)
 }
 
 // The printed table as text, and its length.
@@ -106,8 +94,5 @@ pub extern "C" fn boccelarch_printed_table(out: &mut [u8], place: &mut u64, byte
     ensures out_after { out.new ≡ printed_output out.old }
 {
     let printed = tender::printed_table(out);
-    let verdict = printed.verdict;
-    *place = refusal::place(verdict);
-    *bytes = printed.bytes;
-    refusal::number(verdict)
+    told(printed, place, bytes)
 }

@@ -16,6 +16,7 @@ use clearing::Clearing;
 use output::TextWritten;
 
 // What was cleared, in a layout, or the line of the refusal.
+#[tactic(auto, unfolding(tender::specs::FromText::printed_as))]
 fn write(layout: Layout, cleared: Clearing, out: &mut [u8]) -> TextWritten
     ensures value { result ≡ written_of Accepted (printed_as (layout_text layout) cleared) (length out.old) }
     ensures out_after { out.new ≡ output_after Accepted (printed_as (layout_text layout) cleared) out.old }
@@ -27,6 +28,7 @@ fn write(layout: Layout, cleared: Clearing, out: &mut [u8]) -> TextWritten
 }
 
 // Puts it at the beginning of an output that has room for it, and answers how many bytes it has.
+#[tactic(auto, using(output::proofs::Answers::all_written_lem))]
 fn put(layout: Layout, cleared: Clearing, out: &mut [u8]) -> usize
     requires { length (printed_as (layout_text layout) cleared) ≤ length out.old }
     ensures out_after { take result out.new ≡ printed_as (layout_text layout) cleared }

@@ -4,7 +4,6 @@ ghost use Rattle.sampling.specs.Entries.{table_entries};
 ghost use Rattle.tender.specs.FromText.{clear_text_sampled, clear_text};
 
 use clearing::Clearing;
-use refusal::Verdict;
 use sampling::Table;
 
 // The award of a text's book, sampled by a table. It is no entry: it does not look whether the table passes.
@@ -12,19 +11,15 @@ use sampling::Table;
 pub fn clear_sampled(table: Table, text: &[u8]) -> Clearing
     ensures { result ≡ clear_text_sampled (table_entries table) text.now }
 {
-    let read = bookreader::read(text);
-    let verdict = read.verdict;
-    if let Err(_) = verdict {
-        return clearing::refused(verdict);
+    match bookreader::book(text) {
+        Ok(book) => clearing::clear_sampled(table, book),
+        Err(refusal) => Clearing::from(Err(refusal)),
     }
-    let book = read.book;
-    clearing::clear_sampled(table, book)
 }
 
 // The award of a text's book, sampled by the printed table.
 pub fn clear(text: &[u8]) -> Clearing
     ensures { result ≡ clear_text text.now }
 {
-    let table = sampling::printed();
-    clear_sampled(table, text)
+    clear_sampled(sampling::printed(), text)
 }

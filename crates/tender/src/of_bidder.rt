@@ -2,7 +2,6 @@
 ghost use Rattle.std.specs.Prelude.{◌≡◌};
 ghost use Rattle.tender.specs.OfBidder.{too_dear_text};
 
-use refusal::Verdict;
 use toodear::TooDear;
 
 // How much too dear the bidder was: refused as reading refuses the text, then by 13 where the bidder is not in the book, then by 9.
@@ -10,11 +9,8 @@ use toodear::TooDear;
 pub fn too_dear(text: &[u8], bidder: u64) -> TooDear
     ensures { result ≡ too_dear_text text.now bidder }
 {
-    let read = bookreader::read(text);
-    let verdict = read.verdict;
-    if let Err(_) = verdict {
-        return toodear::no_amount(verdict);
+    match bookreader::book(text) {
+        Ok(book) => toodear::too_dear(book, bidder),
+        Err(refusal) => TooDear::from(Err(refusal)),
     }
-    let book = read.book;
-    toodear::too_dear(book, bidder)
 }

@@ -7,20 +7,18 @@ use crate::awards::clear;
 use awardwriter::Layout;
 use clearing::Clearing;
 use output::TextWritten;
-use refusal::Verdict;
 
 // Writes what was cleared at the beginning of the output: refused as it was cleared, then by 10 with the bytes needed. With a refusal the
 // output is unchanged.
+#[tactic(auto, unfolding(crate::specs::FromText::written_as, crate::specs::FromText::output_as, output::specs::Writing::writing_verdict, output::specs::Writing::written_of, output::specs::Writing::output_after))]
 pub fn write_as(layout: Layout, cleared: Clearing, out: &mut [u8]) -> TextWritten
     ensures value { result ≡ written_as (layout_text layout) cleared (length out.old) }
     ensures out_after { out.new ≡ output_as (layout_text layout) cleared out.old }
 {
-    let verdict = cleared.verdict;
-    if let Err(_) = verdict {
-        return output::refused(verdict);
+    match cleared.verdict {
+        Ok(()) => awardwriter::write(layout, cleared.award, out),
+        Err(refusal) => TextWritten::from(Err(refusal)),
     }
-    let award = cleared.award;
-    awardwriter::write(layout, award, out)
 }
 
 // Writes the award sheet of a text's book, sampled by the printed table: refused by 1, 2, 3 to 8, then 9, then 10.
@@ -28,8 +26,7 @@ pub fn sheet(text: &[u8], out: &mut [u8]) -> TextWritten
     ensures value { result ≡ sheet_written text.now (length out.old) }
     ensures out_after { out.new ≡ sheet_output text.now out.old }
 {
-    let cleared = clear(text);
-    write_as(Layout::Sheet, cleared, out)
+    write_as(Layout::Sheet, clear(text), out)
 }
 
 // Writes the page of the award likewise: 10 gives the bytes of the page.
@@ -37,6 +34,5 @@ pub fn page(text: &[u8], out: &mut [u8]) -> TextWritten
     ensures value { result ≡ page_written text.now (length out.old) }
     ensures out_after { out.new ≡ page_output text.now out.old }
 {
-    let cleared = clear(text);
-    write_as(Layout::Page, cleared, out)
+    write_as(Layout::Page, clear(text), out)
 }

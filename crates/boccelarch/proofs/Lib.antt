@@ -1,2 +1,0 @@
-pub mod Casts
-pub mod Given
