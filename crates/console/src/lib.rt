@@ -9,35 +9,40 @@ mod told;
 
 use awardwriter::Layout;
 use std::io::Write;
+use told::Program;
 
 pub fn run(rt: &HostRuntime, layout: Layout) {
+    let program = Program { rt, layout };
     // One byte more than a text may have, so that a longer one is seen to be too long; so it is with the book's.
     let mut table = [0u8; 4097];
     match input::read_file(rt, "sampling", &mut table) {
-        Ok(None) => clear_book(rt, layout, None),
-        Ok(Some(n)) => clear_book(rt, layout, Some(&table[..n])),
+        Ok(None) => clear_book(program, None),
+        Ok(Some(n)) => clear_book(program, Some(&table[..n])),
         // What is left of a text after a failed read can still be a whole text, so no award is printed; so it is with the book's.
-        Err(error) => told::failed(rt, layout, "sampling", error),
+        Err(error) => program.failed("sampling", error),
     }
 }
 
 // Sampled by the table, if there is one, and else by the printed one.
-fn clear_book(rt: &HostRuntime, layout: Layout, table: Option<&[u8]>) {
+fn clear_book(program: Program, table: Option<&[u8]>) {
     let mut text = [0u8; 4097];
-    match input::read(&mut rt.stdin(), &mut text) {
-        Ok(n) => print(rt, layout, table, &text[..n]),
-        Err(error) => told::failed(rt, layout, "standard input", error),
+    match input::read(&mut program.rt.stdin(), &mut text) {
+        Ok(n) => print(program, table, &text[..n]),
+        Err(error) => program.failed("standard input", error),
     }
 }
 
-fn print(rt: &HostRuntime, layout: Layout, table: Option<&[u8]>, text: &[u8]) {
+fn print(program: Program, table: Option<&[u8]>, text: &[u8]) {
     let mut out = [0u8; 600];
-    let n = put(layout, table, text, &mut out);
-    if let Err(error) = rt.stdout().write_all(&out[..n]) {
-        told::failed(rt, layout, "standard output", error);
+    let n = put(program.layout, table, text, &mut out);
+    if let Err(error) = program.rt.stdout().write_all(&out[..n]) {
+        program.failed("standard output", error);
     }
-    if let Some(table) = table {
-        tell_refused(rt, layout, table);
+    // The line of a refusal does not say which of the two texts it is about.
+    if let Some(table) = table
+        && tablereader::read(table).verdict.is_err()
+    {
+        program.table_refused();
     }
 }
 
@@ -48,12 +53,5 @@ fn put(layout: Layout, table: Option<&[u8]>, text: &[u8], out: &mut [u8]) -> usi
     match table {
         Some(table) => printout::print_by_table(layout, table, text, out),
         None => printout::print(layout, text, out),
-    }
-}
-
-// The line of a refusal does not say which of the two texts it is about.
-fn tell_refused(rt: &HostRuntime, layout: Layout, table: &[u8]) {
-    if tablereader::read(table).verdict.is_err() {
-        told::table_refused(rt, layout);
     }
 }

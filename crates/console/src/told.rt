@@ -3,30 +3,40 @@ use awardwriter::Layout;
 use std::io;
 use std::io::Error;
 
-// The program that prints the layout.
-fn program(layout: Layout) -> &'static str {
-    match layout {
-        Layout::Sheet => "clear",
-        Layout::Page => "page",
+// A program is named by the layout that it prints.
+#[derive(Clone, Copy)]
+pub struct Program<'a> {
+    pub rt: &'a HostRuntime,
+    pub layout: Layout,
+}
+
+impl Program<'_> {
+    fn name(self) -> &'static str {
+        match self.layout {
+            Layout::Sheet => "clear",
+            Layout::Page => "page",
+        }
     }
-}
 
-// What failed, and why.
-pub fn failed(rt: &HostRuntime, layout: Layout, what: &str, error: Error) {
-    let _told = reason(rt, program(layout), what, error);
-}
+    // What failed, and why.
+    pub fn failed(self, what: &str, error: Error) {
+        let _told = self.reason(what, error);
+    }
 
-// In the system's words without its number.
-fn reason(rt: &HostRuntime, program: &str, what: &str, error: Error) -> io::Result<()> {
-    let said = format!(in rt.alloc(); "{error}")?;
-    let words = said.as_str();
-    let reason = words
-        .split_once(" (os error ")
-        .map_or(words, |(reason, _)| reason);
-    eprintln!(rt; "{program}: {what}: {reason}")
-}
+    // In the system's words without its number.
+    fn reason(self, what: &str, error: Error) -> io::Result<()> {
+        let name = self.name();
+        let said = format!(in self.rt.alloc(); "{error}")?;
+        let words = said.as_str();
+        let reason = match words.split_once(" (os error ") {
+            Some((reason, _)) => reason,
+            None => words,
+        };
+        eprintln!(self.rt; "{name}: {what}: {reason}")
+    }
 
-pub fn table_refused(rt: &HostRuntime, layout: Layout) {
-    let program = program(layout);
-    let _told = eprintln!(rt; "{program}: sampling: the table is refused");
+    pub fn table_refused(self) {
+        let name = self.name();
+        let _told = eprintln!(self.rt; "{name}: sampling: the table is refused");
+    }
 }
