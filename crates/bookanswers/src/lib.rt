@@ -15,7 +15,7 @@ pub fn write(text: &[u8], out: &mut [u8]) -> TextWritten
     ensures value { result ≡ book_written text.now (length out.old) }
     ensures out_after { out.new ≡ book_output text.now out.old }
 {
-    match bookreader::book(text) {
+    match bookreader::book_of(text) {
         Ok(book) => bookwriter::write(book, out),
         Err(refusal) => TextWritten::from(Err(refusal)),
     }
@@ -26,7 +26,7 @@ pub fn write(text: &[u8], out: &mut [u8]) -> TextWritten
 pub fn sizes(text: &[u8]) -> BookSizes
     ensures { result ≡ sizes_text text.now }
 {
-    match bookreader::book(text) {
+    match bookreader::book_of(text) {
         Ok(book) => sizes::sizes(book),
         Err(refusal) => BookSizes::from(Err(refusal)),
     }
@@ -37,7 +37,7 @@ pub fn sizes(text: &[u8]) -> BookSizes
 pub fn price_split(text: &[u8], quantities: &[u64]) -> SplitPrice
     ensures { result ≡ split_text text.now quantities.now }
 {
-    match bookreader::book(text) {
+    match bookreader::book_of(text) {
         Ok(book) => split::price_split(book, quantities),
         Err(refusal) => SplitPrice::from(Err(refusal)),
     }

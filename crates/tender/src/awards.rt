@@ -11,7 +11,7 @@ use sampling::Table;
 pub fn clear_sampled(table: Table, text: &[u8]) -> Clearing
     ensures { result ≡ clear_text_sampled (table_entries table) text.now }
 {
-    match bookreader::book(text) {
+    match bookreader::book_of(text) {
         Ok(book) => clearing::clear_sampled(table, book),
         Err(refusal) => Clearing::from(Err(refusal)),
     }

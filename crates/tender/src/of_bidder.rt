@@ -9,7 +9,7 @@ use toodear::TooDear;
 pub fn too_dear(text: &[u8], bidder: u64) -> TooDear
     ensures { result ≡ too_dear_text text.now bidder }
 {
-    match bookreader::book(text) {
+    match bookreader::book_of(text) {
         Ok(book) => toodear::too_dear(book, bidder),
         Err(refusal) => TooDear::from(Err(refusal)),
     }
