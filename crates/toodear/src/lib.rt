@@ -57,8 +57,7 @@ fn for_bid(book: Book, at: usize) -> Result<Option<CentsPerBlank>, Refusal>
     if sells_nothing {
         return Ok(None);
     }
-    let cents = discounts::smallest(book, at, most);
-    Ok(Some(CentsPerBlank(cents)))
+    Ok(Some(discounts::smallest(book, at, most)))
 }
 
 // Refused by rules 3 to 8 as `bookrules::check` refuses the record, then by 13 where the bidder is not in the book, then by 9.

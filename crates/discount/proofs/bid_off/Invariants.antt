@@ -3,4 +3,4 @@ use Rattle.discount.proofs.Lowered.{Lowered}
 use Rattle.discount.proofs.bid_off.Given as goal
 
 abbrev pub invariant-loop-i : goal.invariant-loop-i
-invariant-loop-i l = Lowered l.cents l.bid l.cheaper l.i
+invariant-loop-i l = Lowered l.cents.0 l.bid l.cheaper l.i

@@ -43,9 +43,9 @@ offset_bounds-book-at c = omega (arith, bid (goal.at.offset_bounds-book-at c).St
 pub bounds-book-at : goal.bounds-book-at
 bounds-book-at c = omega (arith, bid (goal.at.bounds-book-at c).Start)
 
-pub bid_off-cheaper-requires : goal.bid_off-cheaper-requires
-bid_off-cheaper-requires c =
-    let s = (goal.at.bid_off-cheaper-requires c).Start in
+pub bid_off-requires : goal.bid_off-requires
+bid_off-requires c =
+    let s = (goal.at.bid_off-requires c).Start in
     let b = c.args.book in
     let has = leaves_has (book_entries b) c.requires.bidder c.args.at (bid_entries no_bid) c.requires.accepted c.requires.named _ c.requires.leaves in
     record { held = (bid_at_lem b c.requires.accepted (held s) c.args.at (bid s).0).count_high; has = rw (entry s) at has }
@@ -59,5 +59,5 @@ bounds-changed-at c = omega (arith, bid (goal.at.bounds-changed-at c).Start)
 pub returns : goal.returns
 returns c =
     let s = (goal.at.returns c).Start in
-    let cheaper = c.bid_off-cheaper in
-    off_at c.args.book c.args.at c.args.cents cheaper.result (bid s).0 (cheaper.ensures ∙ ap (bid_off c.args.cents) (sym (entry s)))
+    let cheaper = c.bid_off in
+    off_at c.args.book c.args.at c.args.cents.0 cheaper.result (bid s).0 (cheaper.ensures ∙ ap (bid_off c.args.cents.0) (sym (entry s)))

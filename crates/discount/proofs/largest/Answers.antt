@@ -6,10 +6,12 @@ use Rattle.std.proofs.lemmas.List.{at_drop_all}
 use Rattle.lists.specs.Every.{every}
 use Rattle.lists.proofs.Slices.{length_held}
 use Rattle.lists.proofs.Everywhere.{every_at}
+use Rattle.money.specs.declared.CentsPerBlank.{CentsPerBlank}
 use Rattle.book.specs.declared.Segment.{Segment}
 use Rattle.book.specs.Rules.{segment_in_range, start_not_negative}
 use Rattle.book.proofs.Records.{no_segment}
 use Rattle.discount.specs.Asked.{takes}
+use Rattle.discount.proofs.Least.{smaller}
 use Rattle.discount.proofs.Segments.{largest_next, largest_all}
 use Rattle.discount.proofs.largest.Goals as goal
 use Rattle.discount.proofs.largest.Goals.{Start}
@@ -25,12 +27,13 @@ most_off-requires c =
 pub loop-s-preserved : goal.loop-s-preserved
 loop-s-preserved c =
     let at = c.loop-s in
-    let ss = c.listed-s-items.result.now in (
-      omega arith,
+    let ss = c.listed-s-items.result.now in
+    let least = ap (λ (most : CentsPerBlank). most.0) c.min-most.ensures ∙ smaller c.most_off.result at.most in (
+      omega (arith, least),
       λ cents.
           at.invariant.1 cents
-          ∙ largest_next ss at.s-index at.most c.most_off.result cents c.loop-s-test.true c.most_off.ensures
-          ∙ ap (λ (n : ℕ). every (takes cents) (drop (at.s-index + 1) ss) && leb cents n) (sym c.min-most.ensures),
+          ∙ largest_next ss at.s-index at.most.0 c.most_off.result.0 cents c.loop-s-test.true c.most_off.ensures
+          ∙ ap (λ (n : ℕ). every (takes cents) (drop (at.s-index + 1) ss) && leb cents n) (sym least),
     )
 
 pub returns-clause-largest : goal.returns-clause-largest
@@ -41,7 +44,7 @@ returns-clause-largest c cents =
     let ss = c.listed-s-items.result.now in
     let six : length bid.segments ≡ 6 = search (length_held, c.well_formed) in
     let some-segment : 1 ≤ length (take bid.count bid.segments) = omega (arith, c.requires.count_low, length-take-le {A = Segment}) in
-    let left = at_drop_all (λ (l : List Segment). every (takes cents) l && leb cents at.most) ss at.s-index c.loop-s-test.false in
+    let left = at_drop_all (λ (l : List Segment). every (takes cents) l && leb cents at.most.0) ss at.s-index c.loop-s-test.false in
     let all : every (takes cents) ss ≡ every (takes cents) (take bid.count bid.segments) = ap (every (takes cents)) c.listed-s-items.ensures in
-    largest_all (take bid.count bid.segments) at.most cents some-segment c.requires.ranges
+    largest_all (take bid.count bid.segments) at.most.0 cents some-segment c.requires.ranges
     (ap (λ (t : Bool). t && leb cents 1000000) (sym all) ∙ at.invariant.1 cents ∙ left)

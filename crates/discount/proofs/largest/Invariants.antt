@@ -8,5 +8,5 @@ use Rattle.discount.proofs.largest.Given as goal
 
 abbrev pub invariant-loop-s : goal.invariant-loop-s
 invariant-loop-s l =
-    (l.most ≤ 1000000)
-    × ((cents : ℕ) → every (takes cents) l.s-items && leb cents 1000000 ≡ every (takes cents) (drop l.s-index l.s-items) && leb cents l.most)
+    (l.most.0 ≤ 1000000)
+    × ((cents : ℕ) → every (takes cents) l.s-items && leb cents 1000000 ≡ every (takes cents) (drop l.s-index l.s-items) && leb cents l.most.0)

@@ -24,13 +24,13 @@ bid c = named_record c.args.book c.requires.bidder c.args.at c.requires.accepted
 
 -- the discounts that leave an accepted book
 leaves : (c : After-largest-most)
-    → ForBidder c.args.book c.args.at (λ bidder. (cents : ℕ) → leaves_accepted (book_entries c.args.book) bidder cents ≡ leb cents c.largest-most.result)
+    → ForBidder c.args.book c.args.at (λ bidder. (cents : ℕ) → leaves_accepted (book_entries c.args.book) bidder cents ≡ leb cents c.largest-most.result.0)
 leaves c =
     let eight : length c.args.book.bids ≡ 8 = search (length_held, c.well_formed) in
-    leaves_of c.args.book c.args.at c.largest-most.result c.requires.accepted eight c.largest-most.ensures.largest
+    leaves_of c.args.book c.args.at c.largest-most.result.0 c.requires.accepted eight c.largest-most.ensures.largest
 
 -- the award with the largest of them
-best : (c : In_ok-best) → AwardOff c.args.book c.args.at c.largest-most.result (Some c.in_ok-best.best)
+best : (c : In_ok-best) → AwardOff c.args.book c.args.at c.largest-most.result.0 (Some c.in_ok-best.best)
 best c bidder named = ap (found c.args.book.count) (sym c.in_ok-best.ensures.ok_part) ∙ c.best_off.ensures bidder named
 
 pub offset_bounds-book-at : goal.offset_bounds-book-at
@@ -47,13 +47,13 @@ largest-most-requires c =
 pub best_off-requires : goal.best_off-requires
 best_off-requires c =
     let p = c.requires in
-    let most = c.largest-most.result in
+    let most = c.largest-most.result.0 in
     let left = leaves (goal.at.best_off-requires c).After-largest-most p.bidder p.named most in
     record { bidder = p.bidder; accepted = p.accepted; named = p.named; leaves = left ∙ le-leb most most (omega arith) }
 
 pub returns-in_err-best : goal.returns-in_err-best
 returns-in_err-best c bidder named =
-    let most = c.largest-most.result in
+    let most = c.largest-most.result.0 in
     let left = leaves (goal.at.returns-in_err-best c).After-largest-most bidder named in
     let (refusal, is, same) = err_from_is_err_and c.from_residual.result c.from_residual.ensures.1 in
     let none = c.in_err-best.ensures.ok_part in
@@ -72,18 +72,18 @@ bounds-best-at c = omega (arith, bid (goal.at.bounds-best-at c).Start)
 pub returns-then-sells_nothing : goal.returns-then-sells_nothing
 returns-then-sells_nothing c bidder named =
     let at = goal.at.returns-then-sells_nothing c in
-    let most = c.largest-most.result in
+    let most = c.largest-most.result.0 in
     let award = an_award c.args.book c.args.at most c.in_ok-best.best (best at.In_ok-best) bidder named in
     let sold = sells_some c.args.book c.args.at most c.in_ok-best.best (best at.In_ok-best) (bid at.Start).0 bidder named in
     let nothing = eqb-true _ 0 (sym c.eq-sells_nothing.ensures ∙ c.if-sells_nothing.true) in
     no_discount (book_entries c.args.book) bidder c.args.at c.requires.accepted named most (leaves at.After-largest-most bidder named) _ award
     (sym sold ∙ ap (ltb 0) nothing)
 
-pub smallest-cents-requires : goal.smallest-cents-requires
-smallest-cents-requires c =
-    let at = goal.at.smallest-cents-requires c in
+pub smallest-requires : goal.smallest-requires
+smallest-requires c =
+    let at = goal.at.smallest-requires c in
     let p = c.requires in
-    let sold = sells_some c.args.book c.args.at c.largest-most.result c.in_ok-best.best (best at.In_ok-best) (bid at.Start).0 p.bidder p.named in
+    let sold = sells_some c.args.book c.args.at c.largest-most.result.0 c.in_ok-best.best (best at.In_ok-best) (bid at.Start).0 p.bidder p.named in
     let some = eqb-false _ 0 (sym c.eq-sells_nothing.ensures ∙ c.if-sells_nothing.false) in
     record {
       bid = p;
@@ -96,6 +96,6 @@ pub returns : goal.returns
 returns c bidder named =
     let at = goal.at.returns c in
     let most = c.largest-most in
-    let award = an_award c.args.book c.args.at most.result c.in_ok-best.best (best at.In_ok-best) bidder named in
-    discount_is (book_entries c.args.book) bidder c.args.at c.requires.accepted named most.result (leaves at.After-largest-most bidder named) _ award
-    most.ensures.upper_bound c.smallest-cents.result (c.smallest-cents.ensures bidder named)
+    let award = an_award c.args.book c.args.at most.result.0 c.in_ok-best.best (best at.In_ok-best) bidder named in
+    discount_is (book_entries c.args.book) bidder c.args.at c.requires.accepted named most.result.0 (leaves at.After-largest-most bidder named) _ award
+    most.ensures.upper_bound c.smallest.result.0 (c.smallest.ensures bidder named)

@@ -20,7 +20,7 @@ less : (a b : ℕ) → is_lt (nat_cmp a b) ≡ ltb a b
 less a b = grind (arith, common_steps, nat_tests)
 
 pub returns-in-None : goal.returns-in-None
-returns-in-None c = sells_none c.args.book c.args.at c.args.cents c.in-None.ensures
+returns-in-None c = sells_none c.args.book c.args.at c.args.cents.0 c.in-None.ensures
 
 pub offset_bounds-best-at : goal.offset_bounds-best-at
 offset_bounds-best-at c = omega (arith, bid (goal.at.offset_bounds-best-at c).Start)
@@ -30,4 +30,4 @@ bounds-best-at c = omega (arith, bid (goal.at.bounds-best-at c).Start)
 
 pub returns-in-Some : goal.returns-in-Some
 returns-in-Some c bidder named =
-    c.lt.ensures ∙ less 0 _ ∙ sells_some c.args.book c.args.at c.args.cents c.in-Some.best c.in-Some.ensures (bid (goal.at.returns-in-Some c).Start).0 bidder named
+    c.lt.ensures ∙ less 0 _ ∙ sells_some c.args.book c.args.at c.args.cents.0 c.in-Some.best c.in-Some.ensures (bid (goal.at.returns-in-Some c).Start).0 bidder named

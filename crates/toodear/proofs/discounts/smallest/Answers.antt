@@ -15,20 +15,20 @@ pub loop-low-preserved-then-sells : goal.loop-low-preserved-then-sells
 loop-low-preserved-then-sells c w =
     let a = c.args in
     let at = c.loop-low in
-    halve_down _ a.most (sells_on a.book a.at a.most w) (at.left - 1) at.low at.high
-    (one_fewer _ a.most at.left at.low at.high (at.invariant w) c.loop-low-test.true) c.loop-low-test.true (sym (c.if-sells.ensures w.bid.bidder w.bid.named))
+    halve_down _ a.most.0 (sells_on a.book a.at a.most.0 w) (at.left - 1) at.low at.high
+    (one_fewer _ a.most.0 at.left at.low at.high (at.invariant w) c.loop-low-test.true) c.loop-low-test.true (sym (c.if-sells.ensures w.bid.bidder w.bid.named))
 
 pub loop-low-preserved : goal.loop-low-preserved
 loop-low-preserved c w =
     let a = c.args in
     let at = c.loop-low in
-    halve_up _ a.most (sells_on a.book a.at a.most w) (at.left - 1) at.low at.high
-    (one_fewer _ a.most at.left at.low at.high (at.invariant w) c.loop-low-test.true) c.loop-low-test.true (sym (c.if-sells.ensures w.bid.bidder w.bid.named))
+    halve_up _ a.most.0 (sells_on a.book a.at a.most.0 w) (at.left - 1) at.low at.high
+    (one_fewer _ a.most.0 at.left at.low at.high (at.invariant w) c.loop-low-test.true) c.loop-low-test.true (sym (c.if-sells.ensures w.bid.bidder w.bid.named))
 
 pub returns : goal.returns
 returns c =
     let a = c.args in
     let at = c.loop-low in
     let b = at.invariant c.requires in
-    smallest_off_lem a.book a.at a.most c.requires at.low (omega (arith, b.ordered, b.top))
-    (found _ a.most at.left at.low at.high b c.loop-low-test.false)
+    smallest_off_lem a.book a.at a.most.0 c.requires at.low (omega (arith, b.ordered, b.top))
+    (found _ a.most.0 at.left at.low at.high b c.loop-low-test.false)

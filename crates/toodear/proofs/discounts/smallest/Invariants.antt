@@ -6,7 +6,7 @@ use Rattle.toodear.proofs.discounts.smallest.Given as goal
 
 -- for the bidder whose bid has that index
 abbrev pub invariant-loop-low : goal.invariant-loop-low
-invariant-loop-low l = (w : Winnable l.book l.at l.most) → Between (sells_with (book_entries l.book) w.bid.bidder) l.most l.left l.low l.high
+invariant-loop-low l = (w : Winnable l.book l.at l.fn.most.0) → Between (sells_with (book_entries l.book) w.bid.bidder) l.fn.most.0 l.left l.low l.high
 
 abbrev pub decreases-loop-low : goal.decreases-loop-low
 decreases-loop-low l = l.left
