@@ -44,7 +44,8 @@ fn segment_off(s: Segment, cents: CentsPerBlank) -> Segment
     Segment { unit, ..s }
 }
 
-// The bid with so many cents off each unit price.
+// The bid with so many cents off each unit price. Each segment is stored by its index: of what is written through `iter_mut` a proof knows
+// only how many there are.
 fn bid_off(bid: Bid, cents: CentsPerBlank) -> Bid
     requires { BidHas bid cents.0 }
     ensures { bid_entries result ≡ bid_off cents.0 (bid_entries bid) }

@@ -1,4 +1,5 @@
-// Discounts tried: each by one search for the award, without the totals without a bidder.
+// Discounts tried: each by one search for the award, without the totals without a bidder. Book and index stay two parameters: a struct of
+// both would copy the book once more and say no more.
 ghost use Rattle.discount.specs.Asked.{CanTake};
 ghost use Rattle.toodear.specs.Asked.{AwardOff, SellsOff, Winnable, SmallestOff};
 
