@@ -14,7 +14,7 @@ use Rattle.booktext.proofs.BookForm.{head_laws}
 use Rattle.forms.specs.Combined.{sequence}
 use Rattle.bookrecord.specs.Adding.{with_bids}
 use Rattle.bookrecord.proofs.Kept.{bids_filled}
-use Rattle.booklines.specs.Heads.{book_started}
+use Rattle.booklines.specs.Records.{book_started}
 
 module _ (from mid : Reader) (h : Head) (x : Scans head from (Ok h) mid) (k : Book) (started : k ≡ book_started h) where
   pub book_scanned : (r : Result Book Stop) (next : Reader) → ScansAs bids (with_bids k) mid r next → ScansAs book book_record from r next

@@ -1,12 +1,12 @@
 // The lines of a bid book, parsed into a record: the demand, and the bids.
 #![tactic(auto)]
 
-ghost use Rattle.std.specs.Prelude.{◌≡◌};
+ghost use Rattle.std.specs.Prelude.{◌≡◌, ◌≤◌};
 ghost use Rattle.scanner.specs.Scans.{ScansAs};
 ghost use Rattle.booktext.specs.BookForm as Form;
 ghost use Rattle.booktext.specs.Record.{bid_record, book_record};
 ghost use Rattle.bookrecord.specs.Adding.{with_bids};
-ghost use Rattle.booklines.specs.Heads.{bid_started, book_started};
+ghost use Rattle.booklines.specs.Records.{bid_started, with_read_bid, book_started};
 
 // The segments of a bid.
 mod segments;
@@ -37,19 +37,23 @@ fn bid(reader: &mut Reader<'_>) -> Result<Bid, Stop>
     Ok(bid)
 }
 
+// The book with a bid more.
+fn with_next(reader: &mut Reader<'_>, book: Book) -> Result<Book, Stop>
+    requires { book.count ≤ reader.now.at }
+    ensures { ScansAs Form.bid (with_read_bid book) reader.old result reader.new }
+{
+    let mut more = book;
+    let next = bid(reader)?;
+    bookrecord::add_bid(&mut more, next);
+    Ok(more)
+}
+
 // One or more bids, added to the record of a head.
 fn bids(reader: &mut Reader<'_>, head: Book) -> Result<Book, Stop>
     requires { head.count ≡ 0 }
     ensures { ScansAs Form.bids (with_bids head) reader.old result reader.new }
 {
-    let mut book = head;
-    let first = bid(reader)?;
-    bookrecord::add_bid(&mut book, first);
-    while reader.begins(b'(') {
-        let further = bid(reader)?;
-        bookrecord::add_bid(&mut book, further);
-    }
-    Ok(book)
+    scanner::one_or_more(reader, b'(', head, with_next)
 }
 
 // The line of the demand and the allowance, in the record of a book with no bid.

@@ -1,8 +1,8 @@
 // The segments of a bid.
-ghost use Rattle.std.specs.Prelude.{◌≡◌};
+ghost use Rattle.std.specs.Prelude.{◌≡◌, ◌≤◌};
 ghost use Rattle.scanner.specs.Scans.{Scans, ScansAs};
 ghost use Rattle.booktext.specs.BookForm as Form;
-ghost use Rattle.bookrecord.specs.Adding.{with_segments};
+ghost use Rattle.bookrecord.specs.Adding.{with_segment, with_segments};
 
 use book::{Bid, Segment};
 use money::{Blanks, Cents, CentsPerBlank};
@@ -22,17 +22,21 @@ fn segment(reader: &mut Reader<'_>) -> Result<Segment, Stop>
     })
 }
 
+// The bid with a segment more.
+fn with_next(reader: &mut Reader<'_>, bid: Bid) -> Result<Bid, Stop>
+    requires { bid.count ≤ reader.now.at }
+    ensures { ScansAs Form.segment (with_segment bid) reader.old result reader.new }
+{
+    let mut more = bid;
+    let next = segment(reader)?;
+    bookrecord::add_segment(&mut more, next);
+    Ok(more)
+}
+
 // One or more segments, added to the record of a bid that has none.
 pub fn segments(reader: &mut Reader<'_>, head: Bid) -> Result<Bid, Stop>
     requires { head.count ≡ 0 }
     ensures { ScansAs Form.segments (with_segments head) reader.old result reader.new }
 {
-    let mut bid = head;
-    let first = segment(reader)?;
-    bookrecord::add_segment(&mut bid, first);
-    while reader.begins(b' ') {
-        let further = segment(reader)?;
-        bookrecord::add_segment(&mut bid, further);
-    }
-    Ok(bid)
+    scanner::one_or_more(reader, b' ', head, with_next)
 }

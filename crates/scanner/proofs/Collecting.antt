@@ -1,28 +1,26 @@
--- A loop that parses items one after the other and adds them to a record. Assumes nothing.
-use Prim.Native.Nat.{ℕ, ◌+◌, ◌-◌, ◌≤◌, ◌<◌}
+-- Items that are parsed one after the other and added to a record: what was parsed is a list of them. Assumes nothing.
+use Prim.Native.Nat.{ℕ, ◌+◌, ◌≤◌, ◌<◌}
 use native.Mathlib.Omega.{arith}
-use mathlib.Core.Bool.{true, false}
-use mathlib.Core.List.{List, [], ◌∷◌, ◌++◌, foldl, foldl-append, append_assoc, append-nil}
-use mathlib.Core.Path.{◌≡◌, sym, ap, ◌∙◌, subst}
-use lib.ListN.{length, drop}
-use Rattle.std.specs.Prelude.{Ok, Err}
+use mathlib.Core.Bool.{true}
+use mathlib.Core.List.{List, [], ◌∷◌, foldl}
+use mathlib.Core.Path.{◌≡◌, refl, sym, ap, ◌∙◌, subst}
+use lib.ListN.{drop}
+use Rattle.std.specs.Prelude.{Result, Ok, Err}
+use Rattle.std.specs.Borrow.{MutBor}
+use Rattle.std.specs.Fn.{Shared}
 use Rattle.lists.specs.Joined.{joined}
 use Rattle.forms.specs.Form.{Form}
 use Rattle.forms.specs.Tests.{starts_with}
 use Rattle.forms.specs.Combined.{sequence}
-use Rattle.forms.specs.Many.{many, OneOrMore, one_or_more}
-use Rattle.forms.specs.Place.{Found, Stops}
+use Rattle.forms.specs.Many.{many, OneOrMore as SomeItems, one_or_more}
 use Rattle.forms.proofs.Form.{Laws}
 use Rattle.forms.proofs.Many.{FirstByte}
 use Rattle.forms.proofs.Items.{moves, no_items, item_stops, item_then, item_then_stops}
-use Rattle.forms.proofs.Place.{found_both, stops_first, stops_second, found_via, stops_via}
 use Rattle.scanner.specs.declared.Reader.{Reader}
 use Rattle.scanner.specs.declared.Stop.{Stop}
-use Rattle.scanner.specs.Scans.{Scans}
-
--- the bytes from the reader's place on
-abbrev pub left : Reader → ℕ
-left here = length here.text.now - here.at
+use Rattle.scanner.specs.Scans.{Parsed, Scans, ok_as, ScansAs}
+use Rattle.scanner.specs.Items.{ParsedBy, Going, Further, OneOrMore, none, breaks_off, one_more, first_breaks_off, first_then}
+use Rattle.scanner.proofs.Scanned.{scans_first, scans_then, scans_via}
 
 -- items of a form, each of which begins with the byte x, and the record to which they are added, one after the other
 pub record Listing (A R : Type 0) : Type 1 where
@@ -31,91 +29,103 @@ pub record Listing (A R : Type 0) : Type 1 where
   pub laws : Laws form
   pub heads : FirstByte x form
   pub add : R → A → R
-  pub count : R → ℕ
 
-module _ {A R : Type 0} (list : Listing A R) (start : Reader) (k : R) where
-  abbrev t : List ℕ
-  t = start.text.now
-
+module _ {A R : Type 0} (list : Listing A R) where
   abbrev M : Form (List A)
   M = many list.x list.form
 
   abbrev L : Form (List A)
   L = one_or_more list.x list.form
 
-  -- Items were parsed from the reader `start` to the reader `here` and added to k, which gave r: what is parsed from here on belongs to the
-  -- same list. Each item took a byte.
-  pub record Collected (here : Reader) (r : R) : Type 0 where
-    pub items : List A
-    pub same_text : here.text.now ≡ t
-    pub kept : r ≡ foldl list.add k items
-    pub few : list.count r ≤ here.at
-    pub goes_on : (xs : List A) (g : ℕ) → Found M t here.at xs g → Found L t start.at (items ++ xs) g
-    pub breaks_off : (g : ℕ) → Stops M t here.at g → Stops L t start.at g
+  -- an item takes at least a byte
+  pub item_moves : (from : Reader) (a : A) (next : Reader) → Scans list.form from (Ok a) next → from.at < next.at
+  item_moves from a next s = moves list.x list.form list.laws list.heads from.text.now s.parsed
 
-  -- where the first item is broken off, the list is
-  pub first_stops : (stop : Stop) (next : Reader) → Scans list.form start (Err stop) next → Scans L start (Err stop) next
-  first_stops stop next item = record {
-    same_text = item.same_text;
-    parsed = stops_via (sequence list.form M) (λ y. y.0 ∷ y.1) (OneOrMore list.x list.form) (joined list.form.text) t (stops_first list.laws M t item.parsed);
+  -- an item, and the others after it
+  item_first : (here : Reader) → starts_with list.x (drop here.at here.text.now) ≡ true → (a : A) (mid : Reader) → Scans list.form here (Ok a) mid
+      → (y : Result (List A) Stop) (next : Reader) → Scans M mid y next
+      → Scans M here (ok_as (λ xs. a ∷ xs) y) next
+  item_first here begins a mid s y next m = record {
+    same_text = m.same_text ∙ s.same_text;
+    parsed = go y (subst (λ (t : List ℕ). Parsed M t mid.at y next.at) s.same_text m.parsed);
   }
+    where
+      go : (y : Result (List A) Stop) → Parsed M here.text.now mid.at y next.at → Parsed M here.text.now here.at (ok_as (λ xs. a ∷ xs) y) next.at
+      go (Ok xs) m = item_then list.x list.form list.laws list.heads here.text.now here.at begins s.parsed m
+      go (Err stop) m = item_then_stops list.x list.form list.laws list.heads here.text.now here.at begins s.parsed m
 
-  -- after the first item
-  pub collected_first : (a : A) (here : Reader) → Scans list.form start (Ok a) here → (r : R) → r ≡ list.add k a → list.count r ≡ 1 → Collected here r
-  collected_first a here item r adds one = record {
-    items = a ∷ [];
-    same_text = item.same_text;
-    kept = adds;
-    few = omega (arith, one, moves list.x list.form list.laws list.heads t item.parsed);
-    goes_on = λ xs g m. found_via (sequence list.form M) (λ y. y.0 ∷ y.1) (OneOrMore list.x list.form) (joined list.form.text) t (found_both list.laws M t item.parsed m);
-    breaks_off = λ g m. stops_via (sequence list.form M) (λ y. y.0 ∷ y.1) (OneOrMore list.x list.form) (joined list.form.text) t (stops_second list.laws M t item.parsed m);
-  }
+  module _ {F : Type 0} (g : Shared F (MutBor Reader × (R × Unit {0})) (Result R Stop × (MutBor Reader × Unit {0}))) (f : F)
+      (steps : (k : R) (from : Reader) (result : Result R Stop) (next : Reader) → ParsedBy g f k from result next
+      → ScansAs list.form (list.add k) from result next) where
+    more_scanned : (k : R) (here : Reader) (result : Result R Stop) (next : Reader) → Further g f list.x k here result next
+        → ScansAs M (foldl list.add k) here result next
+    more_scanned k here result next (none q) =
+        ([], refl, record { same_text = refl; parsed = no_items list.x list.form list.laws list.heads here.text.now here.at here.inside q })
+    more_scanned k here result next (breaks_off {stop = stop} q b) =
+        let s = steps k here (Err stop) next b in
+        record { same_text = s.same_text; parsed = item_stops list.x list.form list.laws list.heads here.text.now here.at q s.parsed }
+    more_scanned k here result next (one_more {s = s} {mid = mid} q b more) =
+        one result (steps k here (Ok s) mid b) (more_scanned s mid result next more)
+      where
+        one : (result : Result R Stop) → ScansAs list.form (list.add k) here (Ok s) mid → ScansAs M (foldl list.add s) mid result next
+            → ScansAs M (foldl list.add k) here result next
+        one (Ok r) i m =
+            (i.0 ∷ m.0, m.1 ∙ ap (λ (c : R). foldl list.add c m.0) i.1, item_first here q i.0 mid i.2 (Ok m.0) next m.2)
+        one (Err stop) i m = item_first here q i.0 mid i.2 (Err stop) next m
 
-  module _ (here : Reader) (r : R) (so_far : Collected here r) where
-    -- the test tells whether another item begins, in the text that the reader had at the start
-    at_start : (b : _) → starts_with list.x (drop here.at here.text.now) ≡ b → starts_with list.x (drop here.at t) ≡ b
-    at_start b e = subst (λ (s : List ℕ). starts_with list.x (drop here.at s) ≡ b) so_far.same_text e
+    pub items_scanned : (k : R) (from : Reader) (result : Result R Stop) (next : Reader) → OneOrMore g f list.x k from result next
+        → ScansAs L (foldl list.add k) from result next
+    items_scanned k from result next (first_breaks_off {stop = stop} b) =
+        scans_via (sequence list.form M) (λ y. y.0 ∷ y.1) (SomeItems list.x list.form) (joined list.form.text) from (Err stop) next
+        (scans_first list.laws M from next stop (steps k from (Err stop) next b))
+    items_scanned k from result next (first_then {s = s} {mid = mid} b more) =
+        one result (steps k from (Ok s) mid b) (more_scanned s mid result next more)
+      where
+        whole : (y : Result (A × List A) Stop) → Scans (sequence list.form M) from y next → Scans L from (ok_as (λ y. y.0 ∷ y.1) y) next
+        whole y s = scans_via (sequence list.form M) (λ y. y.0 ∷ y.1) (SomeItems list.x list.form) (joined list.form.text) from y next s
 
-    module _ (begins : starts_with list.x (drop here.at here.text.now) ≡ true) where
-      -- one item more
-      pub collected_next : (a : A) (next : Reader) → Scans list.form here (Ok a) next → (more : R) → more ≡ list.add r a → list.count more ≡ list.count r + 1
-          → Collected next more
-      collected_next a next item more adds one =
-          let f : Found list.form t here.at a next.at = subst (λ (s : List ℕ). Found list.form s here.at a next.at) so_far.same_text item.parsed in
-          record {
-            items = so_far.items ++ a ∷ [];
-            same_text = item.same_text ∙ so_far.same_text;
-            kept = adds ∙ ap (λ (q : R). list.add q a) so_far.kept ∙ sym (foldl-append list.add k so_far.items (a ∷ []));
-            few = omega (arith, one, so_far.few, moves list.x list.form list.laws list.heads t f);
-            goes_on = λ xs g m.
-                subst (λ (ys : List A). Found L t start.at ys g) (sym (append_assoc so_far.items (a ∷ []) xs))
-                (so_far.goes_on (a ∷ xs) g (item_then list.x list.form list.laws list.heads t here.at (at_start true begins) f m));
-            breaks_off = λ g m. so_far.breaks_off g (item_then_stops list.x list.form list.laws list.heads t here.at (at_start true begins) f m);
-          }
-
-      -- fewer bytes are left after it
-      pub left_falls : (a : A) (next : Reader) → Scans list.form here (Ok a) next → left next < left here
-      left_falls a next item =
-          let m = moves list.x list.form list.laws list.heads here.text.now item.parsed in omega (arith, m, ap length item.same_text, next.inside)
-
-      -- one that is broken off
-      pub collected_stops : (stop : Stop) (next : Reader) → Scans list.form here (Err stop) next → Scans L start (Err stop) next
-      collected_stops stop next item =
-          let f : Stops list.form t here.at stop.at = subst (λ (s : List ℕ). Stops list.form s here.at stop.at) so_far.same_text item.parsed in
-          record {
-            same_text = item.same_text ∙ so_far.same_text;
-            parsed = so_far.breaks_off stop.at (item_stops list.x list.form list.laws list.heads t here.at (at_start true begins) f);
-          }
-
-    -- and none more
-    pub collected_done : starts_with list.x (drop here.at here.text.now) ≡ false → (xs : List A) × (r ≡ foldl list.add k xs) × Scans L start (Ok xs) here
-    collected_done none =
-        let within : here.at ≤ length t = omega (arith, here.inside, ap length so_far.same_text) in
-        let whole = so_far.goes_on [] here.at (no_items list.x list.form list.laws list.heads t here.at within (at_start false none)) in (
-          so_far.items,
-          so_far.kept,
-          record {
-            same_text = so_far.same_text;
-            parsed = subst (λ (ys : List A). Found L t start.at ys here.at) (append-nil so_far.items) whole;
-          },
+        one : (result : Result R Stop) → ScansAs list.form (list.add k) from (Ok s) mid → ScansAs M (foldl list.add s) mid result next
+            → ScansAs L (foldl list.add k) from result next
+        one (Ok r) i m = (
+          i.0 ∷ m.0,
+          m.1 ∙ ap (λ (c : R). foldl list.add c m.0) i.1,
+          whole (Ok (i.0, m.0)) (scans_then list.laws M from mid i.0 i.2 (Ok m.0) next m.2),
         )
+        one (Err stop) i m = whole (Err stop) (scans_then list.laws M from mid i.0 i.2 (Err stop) next m)
+
+-- The same, where the function's contract is known at references to readers.
+pub collected : {A R F : Type 0} {g : Shared F (MutBor Reader × (R × Unit {0})) (Result R Stop × (MutBor Reader × Unit {0}))} {f : F} (list : Listing A R) (k : R) (from : Reader) (result : Result R Stop) (next : Reader)
+    → OneOrMore g f list.x k from result next
+    → ((k : R) (from next : MutBor Reader) (result : Result R Stop) → g.post f (from, (k, tt)) (result, (next, tt))
+    → ScansAs list.form (list.add k) from.now result next.now)
+    → ScansAs (one_or_more list.x list.form) (foldl list.add k) from result next
+collected {g = g} {f = f} list k from result next items steps =
+    items_scanned list g f
+    (λ k from result next b.
+    subst (λ (r : Reader). ScansAs list.form (list.add k) r result next) b.shows
+    (subst (λ (r : Reader). ScansAs list.form (list.add k) b.shown.now result r) b.leaves (steps k b.shown b.left result b.met)))
+    k from result next items
+
+-- Where the record counts its items, and the function asks that no more are counted than bytes were passed, it may be called again after
+-- each item, which takes at least a byte.
+module _ {A R : Type 0} (list : Listing A R) (count : R → ℕ) (counts : (k : R) (a : A) → count (list.add k a) ≡ count k + 1) where
+  record Counted (from : Reader) (s : R) (next : Reader) : Type 0 where
+    pub same_text : next.text.now ≡ from.text.now
+    pub moves : from.at < next.at
+    pub few : count s ≤ next.at
+
+  counted : (k s : R) (from next : Reader) → ScansAs list.form (list.add k) from (Ok s) next → count k ≤ from.at → Counted from s next
+  counted k s from next item few =
+      let m = item_moves list from item.0 next item.2 in
+      record { same_text = item.2.same_text; moves = m; few = omega (arith, m, ap count item.1, counts k item.0) }
+
+  pub counted_on : {F : Type 0} {g : Shared F (MutBor Reader × (R × Unit {0})) (Result R Stop × (MutBor Reader × Unit {0}))} {f : F} {k s : R} {from next : Reader}
+      (b : ParsedBy g f k from (Ok s) next)
+      → ScansAs list.form (list.add k) b.shown.now (Ok s) b.left.now
+      → count k ≤ b.shown.now.at
+      → ((p : MutBor Reader) → count s ≤ p.now.at → g.pre f (p, (s, tt)))
+      → Going g f from s next
+  counted_on {s = s} {from = from} {next = next} b met few asks =
+      let P : Reader → Reader → Type 0 = λ x y. Counted x s y in
+      let l : Counted from s next = subst (λ (r : Reader). P r next) b.shows (subst (λ (r : Reader). P b.shown.now r) b.leaves (counted _ s b.shown.now b.left.now met few)) in
+      record { same_text = l.same_text; moves = l.moves; may = λ p e. asks p (subst (λ (r : Reader). count s ≤ r.at) (sym e) l.few) }

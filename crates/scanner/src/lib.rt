@@ -6,6 +6,9 @@ ghost use Rattle.forms.specs.Tests.{starts_with};
 ghost use Rattle.forms.specs.Word as Word;
 ghost use Rattle.refusal.specs.declared.Rule.TheVariants.{Shape};
 
+mod items;
+
+pub use items::one_or_more;
 use refusal::{Refusal, Rule};
 
 // Where parsing stopped: the place of the first byte from which on no text of the form goes on as this one does.

@@ -1,7 +1,7 @@
 // The lines of a sampling table, parsed into a record.
 #![tactic(auto)]
 
-ghost use Rattle.std.specs.Prelude.{◌≡◌, ◌<◌};
+ghost use Rattle.std.specs.Prelude.{◌≡◌, ◌<◌, ◌≤◌};
 ghost use Rattle.scanner.specs.Scans.{Scans, ScansAs};
 ghost use Rattle.tabletext.specs.Record.{empty_table, table_record};
 ghost use Rattle.tabletext.specs.TableForm as Form;
@@ -39,16 +39,20 @@ fn band(reader: &mut Reader<'_>) -> Result<Band, Stop>
     Ok(Band { highest, sample })
 }
 
+// The table with a band more.
+fn with_next(reader: &mut Reader<'_>, table: Table) -> Result<Table, Stop>
+    requires { table.count ≤ reader.now.at }
+    ensures { ScansAs Form.band_line (with_band table) reader.old result reader.new }
+{
+    let mut more = table;
+    let next = band(reader)?;
+    add_band(&mut more, next);
+    Ok(more)
+}
+
 // One or more bands, added to the record of none.
 pub fn lines(reader: &mut Reader<'_>) -> Result<Table, Stop>
     ensures { ScansAs Form.table table_record reader.old result reader.new }
 {
-    let mut table = empty_table();
-    let first = band(reader)?;
-    add_band(&mut table, first);
-    while reader.begins(b'(') {
-        let further = band(reader)?;
-        add_band(&mut table, further);
-    }
-    Ok(table)
+    scanner::one_or_more(reader, b'(', empty_table(), with_next)
 }

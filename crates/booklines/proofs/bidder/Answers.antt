@@ -6,7 +6,7 @@ use Rattle.forms.proofs.Word.{word_laws}
 use Rattle.scanner.proofs.Scanned.{scans_then, scans_stop_as}
 use Rattle.booktext.specs.Record.{bid_record}
 use Rattle.booktext.specs.BookForm as Form
-use Rattle.booklines.specs.Heads.{bid_started}
+use Rattle.booklines.specs.Records.{bid_started}
 use Rattle.booklines.proofs.bidder.Goals as goal
 
 pub returns-in_err-bidder : goal.returns-in_err-bidder
