@@ -1,3 +1,4 @@
+-- The rows of the bids passed are made.
 use Rattle.sampling.specs.Entries.{table_entries}
 use Rattle.clearing.proofs.Made.{Made}
 use Rattle.clearing.proofs.rows.Given as goal

@@ -34,7 +34,9 @@ few c = few_listed c.args.book (accepted c) _ c.listed-bid-items.ensures (eight 
 bids : (c : After-listed-bid-items) → map bid_entries c.listed-bid-items.result.now ≡ (book_entries c.args.book).bids
 bids c = ap (map bid_entries) c.listed-bid-items.ensures
 
-verdict : (c : After-listed-bid-items) → quantities_verdict 2 (book_entries c.args.book).bids c.args.quantities.now ≡ quantities_verdict 2 (map bid_entries c.listed-bid-items.result.now) c.args.quantities.now
+verdict : (c : After-listed-bid-items)
+    → quantities_verdict 2 (book_entries c.args.book).bids c.args.quantities.now
+    ≡ quantities_verdict 2 (map bid_entries c.listed-bid-items.result.now) c.args.quantities.now
 verdict c = ap (λ (bs : List BidEntries). quantities_verdict 2 bs c.args.quantities.now) (sym (bids c))
 
 this_accepted : (c : In-loop-i) → AcceptedBid (bid_entries (get_or c.listed-bid-items.result.now c.loop-i.i no_bid))

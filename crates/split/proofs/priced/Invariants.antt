@@ -1,3 +1,4 @@
+-- The quantities passed are on offer and added up with their prices.
 use Rattle.split.proofs.Left.{Left}
 use Rattle.split.proofs.priced.Given as goal
 

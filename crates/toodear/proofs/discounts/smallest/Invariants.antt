@@ -1,3 +1,4 @@
+-- The smallest discount that sells something lies between `low` and `high`, and `left` tests are enough to find it.
 use Rattle.lists.proofs.Halving.{Between}
 use Rattle.book.specs.Entries.{book_entries}
 use Rattle.toodear.specs.TooDear.{sells_with}
