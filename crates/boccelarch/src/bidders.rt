@@ -5,23 +5,15 @@ ghost use Rattle.toodear.specs.TooDear.{is_amount, amount_of};
 ghost use Rattle.tender.specs.OfBidder.{too_dear_text};
 
 use crate::refused;
-use toodear::Discount;
+use money::CentsPerBlank;
 
-fn is_amount(discount: Discount) -> u64
-    ensures { result ≡ is_amount discount }
+// A discount as C has it: 1 and the amount, or 0 and 0.
+fn discount_numbers(discount: Option<CentsPerBlank>) -> (u64, u64)
+    ensures { result ≡ (is_amount discount, amount_of discount) }
 {
     match discount {
-        Discount::Amount(_) => 1,
-        Discount::Nothing => 0,
-    }
-}
-
-fn amount_of(discount: Discount) -> u64
-    ensures { result ≡ amount_of discount }
-{
-    match discount {
-        Discount::Amount(cents) => cents.0,
-        Discount::Nothing => 0,
+        Some(cents) => (1, cents.0),
+        None => (0, 0),
     }
 }
 
@@ -40,7 +32,8 @@ pub extern "C" fn boccelarch_too_dear(
     ensures cents_after { cents.new ≡ amount_of (too_dear_text text.now bidder).discount }
 {
     let answer = tender::too_dear(text, bidder);
-    *found = is_amount(answer.discount);
-    *cents = amount_of(answer.discount);
+    let (is_amount, amount) = discount_numbers(answer.discount);
+    *found = is_amount;
+    *cents = amount;
     refused(answer.verdict, place)
 }

@@ -12,7 +12,7 @@ pub fn write_table(text: &[u8], out: &mut [u8]) -> TextWritten
     ensures value { result ≡ table_written text.now (length out.old) }
     ensures out_after { out.new ≡ table_output text.now out.old }
 {
-    match tablereader::table(text) {
+    match tablereader::table_of(text) {
         Ok(table) => tablewriter::write(table, out),
         Err(refusal) => TextWritten::from(Err(refusal)),
     }

@@ -15,7 +15,7 @@ use output::TextWritten;
 pub fn clear_by_table(table: &[u8], text: &[u8]) -> Clearing
     ensures { result ≡ cleared_by_table table.now text.now }
 {
-    match tablereader::table(table) {
+    match tablereader::table_of(table) {
         Ok(loaded) => clear_sampled(loaded, text),
         Err(refusal) => Clearing::from(Err(refusal)),
     }
