@@ -2,11 +2,11 @@
 use Prim.Native.Nat.{ℕ, ◌<◌}
 use native.Mathlib.Decide.{dec_lt}
 use native.Mathlib.Omega.{arith}
-use mathlib.Core.Bool.{Bool, true, false, not, false≢true}
+use mathlib.Core.Bool.{Bool, true, false, false≢true}
 use mathlib.Core.Logic.{◌⊎◌, inl, inr, ⊎_elim}
 use mathlib.Core.Path.{◌≡◌, refl, sym, ap, subst}
-use borrow.Author.Tests.{ltb-true, leb-true, leb-false, lt-ltb, le-ltb, le-leb}
-use lib.Dec.{T, leb, ltb}
+use borrow.Author.Tests.{ltb-true, leb-true, lt-ltb, le-leb}
+use lib.Dec.{T}
 use lib.IntN.{ℤ, pos, negsuc}
 use lib.Signed.{lt_z, le_z, ◌<ℤ◌}
 
@@ -50,27 +50,6 @@ at_most_cases (pos a) (pos b) h = ⊎_elim (λ k. inl (lt-ltb a b k)) (⊎_elim 
 at_most_cases (pos a) (negsuc b) h = absurd (false≢true h)
 at_most_cases (negsuc a) (pos b) h = inl refl
 at_most_cases (negsuc a) (negsuc b) h = ⊎_elim (λ k. absurd (omega (arith, leb-true b a h))) (⊎_elim (λ k. inr (ap negsuc k)) (λ k. inl (lt-ltb b a k))) (order a b)
-
-ltb_not : (a b : ℕ) → ltb a b ≡ not (leb b a)
-ltb_not a b = go (leb b a) refl
-  where
-    go : (t : Bool) → leb b a ≡ t → ltb a b ≡ not t
-    go true e = le-ltb a b (leb-true b a e)
-    go false e = lt-ltb a b (leb-false b a e)
-
--- less is not at least
-pub less_not : (a b : ℤ) → lt_z a b ≡ not (le_z b a)
-less_not (pos a) (pos b) = ltb_not a b
-less_not (pos a) (negsuc b) = refl
-less_not (negsuc a) (pos b) = refl
-less_not (negsuc a) (negsuc b) = ltb_not b a
-
--- of two, one is at most the other
-pub at_most_either : (a b : ℤ) → le_z a b ≡ false → le_z b a ≡ true
-at_most_either (pos a) (pos b) e = le-leb b a (omega (arith, leb-false a b e))
-at_most_either (pos a) (negsuc b) e = refl
-at_most_either (negsuc a) (pos b) e = sym e
-at_most_either (negsuc a) (negsuc b) e = le-leb a b (omega (arith, leb-false b a e))
 
 -- as the library states the order
 pub less : (a b : ℤ) → lt_z a b ≡ true → a <ℤ b

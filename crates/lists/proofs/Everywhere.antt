@@ -1,39 +1,16 @@
--- A test of every element: along a loop, and at each index. Assumes nothing.
-use Prim.Native.Nat.{ℕ, zero, suc, ◌+◌, ◌≤◌, ◌<◌}
+-- A test of every element, and at each index. Assumes nothing.
+use Prim.Native.Nat.{ℕ, zero, suc, ◌≤◌, ◌<◌}
 use native.Mathlib.Nat.{le_of_suc-le-suc, not-suc-le-zero}
 use mathlib.Core.Bool.{Bool, true, false, ◌&&◌}
 use mathlib.Core.List.{List, [], ◌∷◌, map}
 use mathlib.Core.Path.{◌≡◌, refl, sym, ap, ◌∙◌}
 use lib.ListN.{length, get_or, take}
-use lib.Seq.{slice, get_or-take, length-take-le}
+use lib.Seq.{get_or-take, length-take-le}
 use Rattle.lists.specs.All.{All}
 use Rattle.lists.specs.Every.{every}
 use Rattle.lists.proofs.Tests.{both_left, both_right}
-use Rattle.lists.proofs.Slices.{slice_next, slice_done}
 
 module _ {A : Type 0} (test : A → Bool) where
-  every_cons : (x : A) (xs l : List A) → l ≡ x ∷ xs → every test l ≡ test x && every test xs
-  unfolding every
-  every_cons x xs l e = ap (every test) e
-
-  every_none : (l : List A) → l ≡ [] → every test l ≡ true
-  unfolding every
-  every_none l e = ap (every test) e
-
-  module _ (xs : List A) (i n : ℕ) (d : A) where
-    -- a loop goes on past an element that passes, stops at one that fails, and ends with all passed
-    every_here : (b : Bool) → i < n → n ≤ length xs → test (get_or xs i d) ≡ b → every test (slice i n xs) ≡ b && every test (slice (i + 1) n xs)
-    every_here b h k e = every_cons _ _ _ (slice_next xs i n d h k) ∙ ap (λ (c : Bool). c && every test (slice (i + 1) n xs)) e
-
-    pub every_next : i < n → n ≤ length xs → test (get_or xs i d) ≡ true → every test (slice i n xs) ≡ every test (slice (i + 1) n xs)
-    every_next h k e = every_here true h k e
-
-    pub every_stop : i < n → n ≤ length xs → test (get_or xs i d) ≡ false → every test (slice i n xs) ≡ false
-    every_stop h k e = every_here false h k e
-
-  pub every_done : (xs : List A) (i n : ℕ) → i ≤ n → n ≤ i → every test (slice i n xs) ≡ true
-  every_done xs i n h k = every_none _ (slice_done xs i n h k)
-
   -- what holds of every element holds at each index
   pub every_at : (xs : List A) (i : ℕ) (d : A) → i < length xs → every test xs ≡ true → test (get_or xs i d) ≡ true
   unfolding every

@@ -1,7 +1,6 @@
 pub mod Tests
 pub mod Slices
 pub mod Everywhere
-pub mod Anywhere
 pub mod All
 pub mod Joined
 pub mod Padded

@@ -1,11 +1,9 @@
 -- A list less one of its elements. Assumes nothing.
-use Prim.Native.Nat.{ℕ, zero, suc, ◌+◌, ◌≤◌, ◌<◌}
-use native.Mathlib.Numerals.{add-one}
+use Prim.Native.Nat.{ℕ, zero, suc, ◌≤◌}
 use native.Mathlib.Omega.{arith}
-use mathlib.Core.List.{List, [], ◌∷◌, ◌++◌, map, map-append, append-nil, append_assoc}
-use mathlib.Core.Path.{◌≡◌, refl, sym, ap, ap₂, ◌∙◌}
-use lib.ListN.{length, get_or, set, take, drop, drop_of_length-le}
-use lib.Seq.{take-suc, take-suc-set, take-take, take-append-le, drop-append-le, length-take-le}
+use mathlib.Core.List.{List, [], ◌∷◌, ◌++◌, map, map-append}
+use mathlib.Core.Path.{◌≡◌, refl, ap₂, ◌∙◌}
+use lib.ListN.{length, take, drop}
 use Rattle.lists.specs.All.{All}
 use Rattle.lists.proofs.All.{all_append, all_take}
 use Rattle.lists.proofs.Slices.{map_take}
@@ -38,31 +36,3 @@ module _ {A : Type 0} where
 
   pub all_removed : (P : A → Type 0) (i : ℕ) (xs : List A) → All P xs → All P (removed i xs)
   all_removed P i xs p = all_append P (take i xs) (drop (suc i) xs) (all_take P i xs p) (all_drop P (suc i) xs p)
-
-  removed_append : (at : ℕ) (xs : List A) (x : A) → at < length xs → removed at (xs ++ x ∷ []) ≡ removed at xs ++ x ∷ []
-  removed_append at xs x h =
-      let front : at ≤ length xs = omega arith in
-      ap₂ (λ (l r : List A). l ++ r) (take-append-le at xs (x ∷ []) front) (drop-append-le (suc at) xs (x ∷ []) h)
-      ∙ sym (append_assoc (take at xs) (drop (suc at) xs) (x ∷ []))
-
-  stored : (i : ℕ) (ys : List A) (x : A) → i < length ys → take (i + 1) (set ys i x) ≡ take i ys ++ x ∷ []
-  stored i ys x h = rw add-one (take-suc-set ys i x h)
-
-  -- A loop from `at` that moves each later element of xs one place forward, into ys: it starts with xs itself,
-  pub removed_start : (at : ℕ) (xs : List A) → at < length xs → take at xs ≡ removed at (take (at + 1) xs)
-  removed_start at xs h =
-      let short : length (take (at + 1) xs) ≤ suc at = omega (arith, length-take-le (at + 1) xs (omega arith)) in
-      sym (append-nil (take at xs))
-      ∙ ap₂ (λ (l r : List A). l ++ r) (sym (take-take at (at + 1) xs (omega arith))) (sym (drop_of_length-le (take (at + 1) xs) short))
-
-  -- and a turn stores the element at i + 1 at i
-  pub removed_next : (at i : ℕ) (xs ys : List A) (d : A) → at ≤ i → i + 1 < length xs → i < length ys → take i ys ≡ removed at (take (i + 1) xs)
-      → take (i + 1) (set ys i (get_or xs (i + 1) d)) ≡ removed at (take (i + 1 + 1) xs)
-  removed_next at i xs ys d h k l e =
-      let x = get_or xs (i + 1) d in
-      let long : at < length (take (i + 1) xs) = omega (arith, length-take-le (i + 1) xs (omega arith)) in
-      let more : take (i + 1 + 1) xs ≡ take (i + 1) xs ++ x ∷ [] = rw (add-one (i + 1)) (take-suc xs (i + 1) d k) in
-      stored i ys x l
-      ∙ ap (λ (zs : List A). zs ++ x ∷ []) e
-      ∙ sym (removed_append at (take (i + 1) xs) x long)
-      ∙ ap (removed at) (sym more)

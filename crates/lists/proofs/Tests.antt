@@ -21,10 +21,6 @@ pub both_right : (a b : Bool) → a && b ≡ true → b ≡ true
 both_right true b e = e
 both_right false b e = absurd (false≢true e)
 
-pub not_is : (a : Bool) → not a ≡ true → a ≡ false
-not_is true e = absurd (false≢true e)
-not_is false e = refl
-
 pub both_hold : (a b : Bool) → a ≡ true → b ≡ true → a && b ≡ true
 both_hold a b e f = rw (e, f)
 
