@@ -7,7 +7,7 @@ use lib.ListN.{length, take}
 use Rattle.std.specs.Prelude.{Ok, Err}
 use Rattle.refusal.specs.Checks.{when_accepted}
 use Rattle.refusal.specs.Verdict.{Verdict}
-use Rattle.refusal.specs.Verdict.{Accepted, Refused}
+use Rattle.refusal.specs.Verdict.{Accepted}
 use Rattle.forms.specs.Shape.{TextOf, of_shape, not_of_shape, answer}
 use Rattle.textreading.proofs.Kind.{Kind}
 use Rattle.textreading.proofs.Answers.{read_text, accepted_answer}

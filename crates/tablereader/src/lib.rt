@@ -33,7 +33,9 @@ impl From<Result<Table, Refusal>> for TableRead {
     }
 }
 
-// The table of a text, or why it is refused. The whole text is parsed before rule 12 is looked at.
+// The table of a text, or why it is refused. The whole text is parsed before rule 12 is looked at. One function for this and
+// bookreader::book_of would take the lines and the rules with contracts of their own, and is no plainer; they share their laws
+// (textreading/proofs/Parsed).
 pub fn table_of(text: &[u8]) -> Result<Table, Refusal>
     ensures { result ≡ table_of_text text.now }
 {
