@@ -6,7 +6,7 @@ use mathlib.Core.List.{List}
 use mathlib.Core.Path.{◌≡◌, refl, sym, ap₂, subst}
 use borrow.Author.Tests.{leb-true, leb-false}
 use lib.Dec.{leb}
-use lib.ListN.{length, get_or, set}
+use lib.ListN.{length, set}
 use lib.Seq.{get_or-set_same}
 use Rattle.std.specs.Prelude.{Result, Ok, Err}
 use Rattle.forms.specs.Bytes.{ascii}
@@ -83,11 +83,6 @@ stops_all from stop next (suc m) n h x = go (leb n m) refl (λ l. numbers_stop m
 pub record Several (from : Reader) (values : List ℕ) (now : Reader) (i : ℕ) : Type 0 where
   pub some : 1 ≤ i
   pub read : Scans (numbers (i - 1)) from (Ok (numbers_in (i - 1) values)) now
-
-pub several_first : (from : Reader) (v : ℕ) (now : Reader) → Scans (number 0) from (Ok v) now → (values : List ℕ) → get_or values 0 0 ≡ v
-    → Several from values now 1
-several_first from v now s values is =
-    record { some = omega arith; read = subst (λ (x : ℕ). Scans (number 0) from (Ok x) now) (sym is) s }
 
 module _ (from : Reader) (values : List ℕ) (now : Reader) (i : ℕ) (so_far : Several from values now i) where
   -- one more

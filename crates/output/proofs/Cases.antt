@@ -1,14 +1,13 @@
 -- What a text is answered, case by case: refused, or answered about what was worked out from it. Assumes nothing.
 use Prim.Native.Nat.{ℕ}
 use mathlib.Core.List.{List}
-use mathlib.Core.Path.{◌≡◌, refl}
+use mathlib.Core.Path.{◌≡◌}
 use Rattle.refusal.specs.Checks.{when_accepted}
 use Rattle.refusal.specs.declared.Rule.{Rule}
 use Rattle.refusal.specs.Verdict.{Verdict}
 use Rattle.refusal.specs.Verdict.{Accepted, Refused}
 use Rattle.output.specs.declared.TextWritten.{TextWritten}
-use Rattle.output.specs.Writing.{not_written}
-use Rattle.output.proofs.Answers.{Answered, refused_before}
+use Rattle.output.proofs.Answers.{Answered}
 
 -- Every function that answers about a text begins with the same test. `work` is what it has, a book read from the text or the text cleared, and
 -- `stated` what the contract says that this is.
@@ -17,11 +16,6 @@ module _ {A : Type 0} (verdict : A → Verdict) {work stated : A} (is : work ≡
     -- beside a refusal stands what is given for it
     pub if_refused : {B : Type 0} (accepted refused : A → B) → refused work ≡ when_accepted (verdict stated) (accepted stated) (refused stated)
     if_refused accepted refused = rw (← is, told)
-
-    -- and no text is written
-    pub none_written : (text : A → List ℕ) (out : List ℕ) {answer : TextWritten} → answer ≡ not_written (verdict work)
-        → Answered (verdict stated) (text stated) out answer out
-    none_written text out {answer} made = rw (← is) (refused_before (verdict work) (text work) out answer (verdict work) made refl rule place told)
 
   module _ (told : verdict work ≡ Accepted) where
     -- else the answer is the one about the work at hand

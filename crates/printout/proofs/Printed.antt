@@ -23,16 +23,3 @@ fits Page t = omega (arith, page_prints_fit t)
 pub fits_by_table : (layout : Layout) (s t : List ℕ) → length (printed_as (layout_text layout) (cleared_by_table s t)) ≤ 600
 fits_by_table Sheet s t = prints_fit_by_table s t
 fits_by_table Page s t = omega (arith, page_prints_fit_by_table s t)
-
--- what was cleared is what is stated, and its text fits
-pub all_printed : (layout : Layout) (out : List ℕ) → length out ≡ 600 → {cleared stated : Clearing} → cleared ≡ stated
-    → length (printed_as (layout_text layout) stated) ≤ 600 → (answer : TextWritten) (exit : List ℕ) → length exit ≡ length out
-    → Answered Accepted (printed_as (layout_text layout) cleared) out answer exit
-    → (take answer.bytes exit ≡ printed_as (layout_text layout) stated) × (answer.bytes ≤ length exit)
-all_printed layout out held {cleared} {stated} cleared-is short answer exit same (is, left) =
-    let text = printed_as (layout_text layout) cleared in
-    let as_stated = ap (λ (c : Clearing). length (printed_as (layout_text layout) c)) cleared-is in
-    let enough : length text ≤ length out = omega (arith, as_stated, short) in
-    let (size, whole) = all_written_lem Accepted text out refl enough in
-    let bytes : answer.bytes ≡ length text = ap (λ (w : TextWritten). w.bytes) is ∙ size in
-    (ap₂ take bytes left ∙ whole ∙ ap (printed_as (layout_text layout)) cleared-is, omega arith)

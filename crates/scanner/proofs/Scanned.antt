@@ -50,10 +50,3 @@ module _ {A : Type 0} (p : Form A) (from next : Reader) (stop : Stop) where
 
   pub scans_stop_ok : {B : Type 0} (f : B → A) (r : Result B Stop) → IsErrAnd r (λ e. e ≡ stop) → Scans p from (Err stop) next → Scans p from (ok_as f r) next
   scans_stop_ok f r same s = let given = err_from_is_err_and r same in rw (given.1, given.2) s
-
--- from a text's first byte on
-pub scans_start : {A : Type 0} (p : Form A) (t : List ℕ) (from : Reader) → from.text.now ≡ t → from.at ≡ 0 → (x : Result A Stop) (next : Reader)
-    → Scans p from x next
-    → Parsed p t 0 x next.at
-scans_start p t from text start x next s =
-    subst (λ (i : ℕ). Parsed p t i x next.at) start (subst (λ (u : List ℕ). Parsed p u from.at x next.at) text s.parsed)

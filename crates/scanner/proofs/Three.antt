@@ -18,9 +18,6 @@ module _ {A B C D : Type 0} {p : Form A} {q : Form B} (P : Laws p) (Q : Laws q) 
   said : (x : Result (A × (B × C)) Stop) (next : Reader) → Scans three from x next → Scans (via three f Valid text) from (ok_as f x) next
   said x next s = scans_via three f Valid text from x next s
 
-  pub stops_at_first : (stop : Stop) (next : Reader) → Scans p from (Err stop) next → Scans (via three f Valid text) from (Err stop) next
-  stops_at_first stop next s = said (Err stop) next (scans_first P (sequence q r) from next stop s)
-
   module _ (a : A) (one : Reader) (s : Scans p from (Ok a) one) where
     pub stops_at_second : (stop : Stop) (next : Reader) → Scans q one (Err stop) next → Scans (via three f Valid text) from (Err stop) next
     stops_at_second stop next x =
