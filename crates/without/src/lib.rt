@@ -22,7 +22,7 @@ fn book_without(book: Book, at: usize) -> Book
 }
 
 // The total that clearing gives for the bids left: `Nothing` only where they have no division.
-#[tactic(auto, using(crate::proofs::Found::total_amount, crate::proofs::Found::total_nothing))]
+#[tactic(auto, using(crate::proofs::Found::total_amount, crate::proofs::Found::total_nothing, crate::proofs::Searchable::searchable_without, search::proofs::Found::searchable))]
 fn total_without(book: Book, at: usize) -> Total
     requires { BidOf (book_entries book) at }
     ensures { result ≡ total_without (book_entries book) at }
