@@ -37,8 +37,9 @@ pub struct Reader<'a> {
 impl<'a> Reader<'a> {
     ghost use Rattle.scanner.specs.Scans.{first_of, Scans};
 
-    // At the text's first byte.
+    // Of the very text that is lent, at its first byte.
     pub fn new(text: &'a [u8]) -> Reader<'a>
+        ensures lent { result.text ≡ text.entry }
         ensures text { result.text.now ≡ text.entry.now }
         ensures start { result.at ≡ 0 }
     {
