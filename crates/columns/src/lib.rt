@@ -25,12 +25,13 @@ pub fn put(out: &mut Output<'_>, width: u8, shown: Shown)
     ensures puts { Puts out.old (right width (shown_text shown)) out.new }
     ensures upper_bound { out.new.at ≤ out.old.at + 500 }
 {
-    let spaces = (width as usize).saturating_sub(shown_length(shown));
+    let spaces = usize::from(width).saturating_sub(shown_length(shown));
     put_spaces(out, spaces);
     put_shown(out, shown);
 }
 
 // What is shown is measured by putting it into an output that is too short.
+// As output::measure does for a text; what is shown in a column is none.
 fn shown_length(shown: Shown) -> usize
     ensures { result ≡ length (shown_text shown) }
 {

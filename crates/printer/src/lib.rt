@@ -56,7 +56,8 @@ impl<'a> Output<'a> {
     }
 }
 
-// The digits of n, at the beginning of the output.
+// The digits of n, at the beginning of the output. It calls itself for the digits before the last. Document 01 names this form: the digit
+// writer is lent the output from its place onward.
 #[tactic(auto, using(forms::proofs::Digits::length_one, forms::proofs::Digits::length_more, crate::proofs::Digits::wrote_digit, crate::proofs::Digits::wrote_digits))]
 fn write_digits(out: &mut [u8], n: u64) -> usize
     requires { length (digits n) ≤ length out.old }
@@ -79,17 +80,11 @@ fn digit(d: u64) -> u8
     b'0' + (d as u8)
 }
 
-// How many digits n has. Counted by a loop: the library's logarithms are of base 2 alone.
-#[tactic(auto, using(forms::proofs::Digits::length_one, forms::proofs::Digits::length_more))]
+// How many digits n has: one more than its logarithm, and one where it is 0.
+#[tactic(auto, using(crate::proofs::Digits::length_log))]
 fn digit_count(n: u64) -> usize
     ensures value { result ≡ length (digits n) }
     ensures upper_bound { result ≤ 20 }
 {
-    let mut left = n;
-    let mut count: usize = 1;
-    while 10 <= left {
-        left /= 10;
-        count += 1;
-    }
-    count
+    n.max(1).ilog10() as usize + 1
 }

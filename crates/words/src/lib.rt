@@ -8,6 +8,7 @@ ghost use Rattle.words.specs.WordText.{word_text};
 
 use printer::Output;
 
+// An enum and no byte strings: that none is longer than 32 bytes is proved once, and no caller has to say it.
 #[derive(Clone, Copy)]
 pub enum Word {
     Award,
