@@ -1,3 +1,4 @@
+-- The classes from each bidder passed on cover what those bidders can add.
 use Rattle.book.specs.Entries.{book_entries}
 use Rattle.supply.specs.Supply.{supplies_of}
 use Rattle.completions.proofs.Covering.{CoversFrom}

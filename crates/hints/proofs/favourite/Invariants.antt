@@ -1,3 +1,4 @@
+-- A number kept is one that the bid has.
 use Rattle.std.proofs.Common.{◌≤◌, MatchOption}
 use Rattle.hints.proofs.favourite.Given as goal
 

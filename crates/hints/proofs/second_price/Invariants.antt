@@ -1,3 +1,4 @@
+-- No price paid is above the highest price.
 use Rattle.std.proofs.Common.{◌≤◌}
 use Rattle.charges.specs.Charge.{highest}
 use Rattle.hints.proofs.second_price.Given as goal

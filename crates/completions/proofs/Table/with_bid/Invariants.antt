@@ -1,3 +1,4 @@
+-- The classes have what the segments taken add.
 use Rattle.std.proofs.Common.{◌+◌, drop}
 use Rattle.book.specs.Entries.{bid_entries}
 use Rattle.supply.specs.Supply.{supply_of}

@@ -1,3 +1,4 @@
+-- The classes have what the first i classes of the bidders after add, with the segment.
 use Rattle.completions.specs.Steps.{ExtendedBy}
 use Rattle.completions.proofs.Table.with_segment.Given as goal
 

@@ -1,3 +1,4 @@
+-- What is passed of the classes has nothing better.
 use Rattle.std.proofs.Common.{ℕ, ◌+◌, ◌*◌, ◌<◌}
 use Rattle.completions.specs.Classes.{class_at}
 use Rattle.hopeless.specs.Hopeless.{Closed}

@@ -1,3 +1,4 @@
+-- The best so far is that of the segments tried, and each call has a bidder fewer left.
 use Rattle.std.proofs.Common.{◌-◌}
 use Rattle.search.proofs.Turns.{Tried}
 use Rattle.search.proofs.Search.+search.Given as goal

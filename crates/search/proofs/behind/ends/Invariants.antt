@@ -1,3 +1,4 @@
+-- The array has the ends of the segments passed.
 use Rattle.std.proofs.Common.{◌≡◌, length, take}
 use Rattle.choices.specs.Choice.{ends_in_order}
 use Rattle.choicerecord.specs.Records.{first_segments}

@@ -1,3 +1,4 @@
+-- The choice has a segment of every bidder all along.
 use Rattle.book.specs.Entries.{book_entries}
 use Rattle.supply.specs.Supply.{supplies_of}
 use Rattle.search.specs.ChosenFrom.{ChosenFrom}

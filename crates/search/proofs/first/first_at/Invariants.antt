@@ -1,3 +1,4 @@
+-- The best so far is that of complete choices, or none (`Started`).
 use Rattle.book.specs.Entries.{book_entries}
 use Rattle.supply.specs.Supply.{supplies_of}
 use Rattle.choices.specs.Leaf.{Started}
