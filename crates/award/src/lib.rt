@@ -32,7 +32,8 @@ pub struct Row {
     pub without: Total,
 }
 
-// `bought` is what all bidders sell. The first `count` rows are those of the bids, in book order; the others are zeros and `Nothing`.
+// `bought` is what all bidders sell. The first `count` rows are those of the bids, in book order; the others are zeros and `Nothing`. An
+// array and a count, as in a book.
 #[derive(Clone, Copy, PartialEq, Eq)]
 pub struct Award {
     pub demand: Blanks,

@@ -9,6 +9,7 @@ use clearing::Clearing;
 use refusal::{Refusal, Rule, Verdict};
 
 // What an award buys, its total and the number of its bids; zeros beside a refusal.
+// No Result: it is the answer of an entry, and by document 01 zeros stand beside a refusal.
 #[derive(Clone, Copy)]
 pub struct AwardNumbers {
     pub verdict: Verdict,

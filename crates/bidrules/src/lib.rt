@@ -20,7 +20,7 @@ fn in_range(bid: &Bid) -> bool
 }
 
 // The first rule that a bid breaks, if it breaks one. `before` is the bidder of the bid before, or 0
-// for the first.
+// for the first, as in the definition that the contract names.
 #[tactic(auto, unfolding(book::specs::Rules::bid_verdict))]
 pub fn check_bid(bid: &Bid, line: u64, before: u64) -> Verdict
     ensures { result ≡ bid_verdict line before (bid_entries bid.now) }

@@ -16,7 +16,8 @@ pub struct Segment {
 }
 
 // A bidder's price curve, the first `count` of the segments; the others are ignored. Each blank costs the
-// carriage besides: a supply function has it in the unit prices of its segments.
+// carriage besides: a supply function has it in the unit prices of its segments. An array and a count, since nothing is allocated and the
+// count may say that there were more segments than the record holds.
 #[derive(Clone, Copy)]
 pub struct Bid {
     pub bidder: u64,
@@ -32,8 +33,8 @@ pub struct Order {
     pub allowance: Blanks,
 }
 
-// A bid book: the order, and the first `count` of the bids; the others are ignored. A count may say that there
-// were more bids or segments than the record holds: such a book is refused.
+// A bid book: the order, and the first `count` of the bids; the others are ignored. An array and a count, as in a bid;
+// a book whose counts say more than the records hold is refused.
 #[derive(Clone, Copy)]
 pub struct Book {
     pub order: Order,

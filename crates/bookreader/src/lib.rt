@@ -9,13 +9,15 @@ use refusal::{Refusal, Rule, Verdict};
 use scanner::Reader;
 
 // The book of a text, or all zeros beside a refusal.
+// No Result: it is the answer of an entry, and by document 01 zeros stand beside a refusal.
 #[derive(Clone, Copy)]
 pub struct BookRead {
     pub verdict: Verdict,
     pub book: Book,
 }
 
-// The book of a text, or why it is refused. The whole text is parsed before rules 3 to 8 are looked at.
+// The book of a text, or why it is refused. Why there is a function of the same shape for tables is said at tablereader::table_of.
+// The whole text is parsed before rules 3 to 8 are looked at.
 pub fn book_of(text: &[u8]) -> Result<Book, Refusal>
     ensures { result ≡ book_of_text text.now }
 {

@@ -17,7 +17,7 @@ fn order_in_range(order: Order) -> bool
     (Blanks(1)..=Blanks(1_000_000)).contains(&order.demand) && order.allowance <= Blanks(1_000_000)
 }
 
-// The first fault of a bid by rules 4 to 8, with its line: the first bid stands on line 2.
+// The first fault of a bid by rules 4 to 8, with its line: the first bid stands on line 2. Why `tablerules` walks by itself is said there.
 fn check_bids(bids: &[Bid]) -> Verdict
     ensures { result ≡ bids_verdict 2 0 (map bid_entries bids.now) }
 {

@@ -78,7 +78,7 @@ fn charge_at(s: Segment, quantity: Blanks, price: CentsPerBlank) -> u64
     ensures { result ≡ charge_at price.0 s quantity.0 }
 {
     let cents = money::magnitude(money::price(s.unit, quantity, s.fixed));
-    let rest = at_price(price, Blanks(1000000) - quantity);
+    let rest = at_price(price, Blanks(1_000_000) - quantity);
     cents + rest
 }
 

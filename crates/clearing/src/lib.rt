@@ -16,13 +16,14 @@ use refusal::{Refusal, Rule, Verdict};
 use sampling::Table;
 
 // The award of a book, or zeros and `Nothing` beside a refusal.
+// No Result: it is the answer of an entry, and by document 01 zeros stand beside a refusal.
 #[derive(Clone, Copy, PartialEq, Eq)]
 pub struct Clearing {
     pub verdict: Verdict,
     pub award: Award,
 }
 
-// For `tender` too.
+// What the entries that clear a book answer, from a record or a text.
 impl From<Result<Award, Refusal>> for Clearing {
     ghost from_gives = { λ awarded clearing. clearing ≡ clearing_told awarded };
 

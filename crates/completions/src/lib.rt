@@ -13,8 +13,8 @@ use book::{Bid, Book, Order};
 use charges::{Charges, Prices, Sums};
 use money::Blanks;
 
-// The classes for the bidders from `at` on begin with the class 32 × at. Their numbers are those of the rest of eight bidders, so that
-// sums of them fit.
+// The classes for the bidders from `at` on begin with the class 32 × at. A class is of the blanks from its low on and
+// below its high, so that one of zeros is of none. Its numbers are over the rest of eight bidders, so that sums of them fit.
 #[derive(Drop)]
 pub struct Table {
     pub classes: [Sums; 288],
@@ -80,7 +80,7 @@ impl Table {
         }
     }
 
-    // The same with each of their classes.
+    // The same with each of their classes; by the index, since the table is written meanwhile.
     fn with_segment(&mut self, turn: Turn, more: Sums)
         requires { Extendable more }
         ensures { ExtendedBy turn.order turn.at more 32 self.old.classes self.new.classes }
@@ -91,7 +91,7 @@ impl Table {
         }
     }
 
-    // And with each segment of a bid.
+    // And with each segment of a bid, by their numbers: segment 0 is not stored, so there is no slice of them.
     fn with_bid(&mut self, turn: Turn, bid: Bid, prices: Prices)
         requires { BidExtendable bid prices }
         ensures { ExtendedByBid turn.order turn.at prices (supply_of (bid_entries bid)) self.old.classes self.new.classes }
@@ -104,13 +104,14 @@ impl Table {
     }
 }
 
-// The classes of a book's bidders, from the last to the first. It is pub for the search.
+// The classes of a book's bidders, from the last to the first, by the index that their classes have. It is pub for the search.
 pub fn survey(table: &mut Table, book: Book, prices: Prices)
     requires { Surveyable book prices }
     ensures { Surveyed book prices table.new.classes }
 {
     let order = book.order;
     let mut most = Blanks(0);
+    // With no bidder left one way is left, which adds no blank: from 0 on and below 1.
     table.classes[32 * book.count] = Sums {
         low: Blanks(0),
         high: Blanks(1),
@@ -128,7 +129,7 @@ pub fn survey(table: &mut Table, book: Book, prices: Prices)
     }
 }
 
-// How many classes there are for so many bidders left. It is pub for the test.
+// How many classes there are for so many bidders left. It is pub for `hopeless`.
 pub fn class_count(left: usize) -> usize
     ensures { result ≡ class_count left }
 {

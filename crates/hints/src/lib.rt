@@ -12,7 +12,8 @@ use book::{Bid, Book, Order, Segment};
 use comparison::PricedDivision;
 use money::{Blanks, CentsPerBlank};
 
-// The number of the segment that is charged least by a price, the later of equals; 0 where none starts within what the order takes.
+// The number of the segment that is charged least by a price, the later of equals; 0 where none starts within what the order takes. A
+// loop: the closures of a chain would have to be callable with any number, and `segment_of` asks for one of the bid's.
 fn favourite(bid: Bid, order: Order, price: CentsPerBlank) -> usize
     requires { HintedBid bid price.0 }
     ensures { result ≤ bid.count }

@@ -25,8 +25,9 @@ pub struct Bounds<'a> {
     ghost capped: { Capped prices },
 }
 
-// Whether no division has its starts and its ends add up so: the starts pass what the order takes, or the ends do not reach the demand. Starts
-// up to the demand pass nothing: `passes` is not called for them, since this test runs most often.
+// Whether no division has its starts and its ends add up so: the starts pass what the order takes, or the ends do not reach the
+// demand. With a class, `high` is one above the ends. Starts up to the demand pass nothing: `passes` is not called for them, since this
+// test runs most often.
 fn apart(order: Order, low: Blanks, high: Blanks) -> bool
     ensures fact { result ≡ true → (most_of order < low.0) ⊎ (high.0 ≤ order.demand.0) }
     ensures demand_lt_high { result ≡ false → order.demand.0 < high.0 }
@@ -55,7 +56,7 @@ impl Bounds<'_> {
         requires { Comparable price.0 least.0 charged cents }
         ensures { result ≡ true → Above least.0 self.now.bidders price.0 charged cents ties }
     {
-        let limit = cents + charges::at_price(price, Blanks(1000000 * (self.bidders as u64)));
+        let limit = cents + charges::at_price(price, Blanks(1_000_000 * (self.bidders as u64)));
         let bound = charged + charges::at_price(price, least);
         limit < bound || (ties && limit == bound)
     }
@@ -84,7 +85,8 @@ impl Bounds<'_> {
 
     // Whether the search can go on with a choice for the first `at` bidders only to leave the best so far as it is: with each class of
     // ways to complete it there is nothing better. `sums` are those of the choice. With `ties`, the best so far wins every
-    // tie against the choice, and so is better than what only costs as much. It is pub for the search.
+    // tie against the choice, and so is better than what only costs as much. A loop, since the closure of `all` could be called only with
+    // classes of the table. It is pub for the search.
     pub fn hopeless(&self, at: usize, sums: Sums, ties: bool, best: Option<PricedDivision>) -> bool
         requires { Testable self.now.bidders at sums }
         ensures { result ≡ true → NothingBetter self.now.order self.now.bidders self.now.prices self.now.table.now.classes at sums ties best }

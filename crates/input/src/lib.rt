@@ -7,7 +7,8 @@ use std::fs::Files;
 use std::io::{ErrorKind, Read};
 use std::{fs, io};
 
-// Reads until the buffer is full or the input ends, and answers how many bytes were read.
+// Reads until the buffer is full or the input ends, and answers how many bytes were read. How far each read comes the system decides, so the
+// loop is no `for`.
 pub fn read<R: Read>(reader: &mut R, buf: &mut [u8]) -> io::Result<usize>
     ensures { IfOk result (λ n. n ≤ length buf.new) }
 {

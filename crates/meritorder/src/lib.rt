@@ -63,6 +63,7 @@ fn extra(c: Choice, i: usize, left: Blanks) -> Blanks
 
 // Quantities within a choice, as many as the demand, or as the starts where these pass it: from the last
 // bidder to the first, each gets its start and its extra of what is left. Where the choice fits they are the best.
+// By the index, since the extra looks at the bidders before.
 pub fn fill(c: Choice, order: Order) -> PricedDivision
     ensures { division_in c.count result ≡ filled order (chosen c) }
 {

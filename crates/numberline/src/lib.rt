@@ -6,7 +6,8 @@ ghost use Rattle.numberline.specs.ScansLine.{ScansNumbers, ScansLine};
 
 use scanner::{Reader, Stop};
 
-// N numbers, with one space between two of them.
+// N numbers, with one space between two of them. Stored by their index: of what is written through `iter_mut` a proof knows only how many
+// there are.
 pub fn spaced<const N: usize>(reader: &mut Reader<'_>) -> Result<[u64; N], Stop>
     requires { 1 ≤ N }
     ensures { ScansNumbers N reader.old result reader.new }

@@ -9,6 +9,7 @@ use printer::Output;
 use refusal::{Refusal, Rule, Verdict};
 
 // How many bytes were written, or 0 beside a refusal.
+// No Result: it is the answer of an entry, and by document 01 zeros stand beside a refusal.
 #[derive(Clone, Copy)]
 pub struct TextWritten {
     pub verdict: Verdict,

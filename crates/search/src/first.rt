@@ -42,7 +42,8 @@ fn choice_of(book: Book, numbers: [usize; 8]) -> Choice
     c
 }
 
-// The best of a division, if there is one, and of the choices that differ from a choice in the segment of the bidder with index `at`.
+// The best of a division, if there is one, and of the choices that differ from a choice in the segment of the bidder with index `at`:
+// each by its number, since segment 0 is not stored.
 fn first_at(
     book: &Book,
     c: Choice,

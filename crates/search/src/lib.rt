@@ -78,7 +78,8 @@ struct Search<'a> {
 impl Search<'_> {
     // A segment is chosen for the next bidder, each in turn from its last to segment 0, and the search
     // calls itself for the bidders after it, unless nothing better can be found there; with a segment of
-    // the last the choice is complete. It returns the best division so far.
+    // the last the choice is complete. It returns the best division so far. Segments by their numbers, since segment 0 is
+    // not stored.
     fn search(
         &self,
         c: Choice,

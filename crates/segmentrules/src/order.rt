@@ -5,7 +5,7 @@ ghost use Rattle.book.specs.Rules.{segments_rise};
 use book::Segment;
 use money::Blanks;
 
-// The segments as the bid lists them.
+// The segments as the bid lists them. Before the first one 0 stands, as in the definition that the contract names.
 pub fn segments_rise(segments: &[Segment]) -> bool
     ensures { result ≡ segments_rise 0 segments.now }
 {

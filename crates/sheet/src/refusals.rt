@@ -20,8 +20,8 @@ impl Text for Line {
     }
 }
 
-// Writes the one line that is printed for a refusal at the beginning of the output: number and place. It
-// takes rule and place, so that there is no line for what is accepted; what it answers is about the output.
+// Writes the one line that is printed for a refusal at the beginning of the output: number and place. Rule and
+// place are two parameters, as README has the entry; what it answers is about the output.
 pub fn write_refusal(rule: Rule, place: u64, out: &mut [u8]) -> TextWritten
     ensures value { result ≡ written_of Accepted (refusal_text (Refused rule place)) (length out.old) }
     ensures out_after { out.new ≡ output_after Accepted (refusal_text (Refused rule place)) out.old }

@@ -12,7 +12,8 @@ use refusal::{Refusal, Verdict};
 
 // How many bytes the book's text has, how many choices of a segment for each bidder there are, and how many bytes its sheet
 // has at most; zeros beside a refusal.
-#[derive(Clone, Copy, PartialEq, Eq)]
+// No Result: it is the answer of an entry, and by document 01 zeros stand beside a refusal.
+#[derive(Clone, Copy)]
 pub struct BookSizes {
     pub verdict: Verdict,
     pub bytes: u64,
@@ -21,14 +22,14 @@ pub struct BookSizes {
 }
 
 // The three figures of an accepted book.
-#[derive(Clone, Copy, PartialEq, Eq)]
+#[derive(Clone, Copy)]
 pub struct Figures {
     pub bytes: u64,
     pub choices: u64,
     pub sheet: u64,
 }
 
-// For `bookanswers` too.
+// What the entries answer, from a record or a text.
 impl From<Result<Figures, Refusal>> for BookSizes {
     ghost from_gives = { λ figures sizes. sizes ≡ sizes_told figures };
 

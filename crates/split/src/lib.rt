@@ -11,14 +11,15 @@ use refusal::{Refusal, Rule, Verdict};
 
 // The price of a split, and whether its quantities add up to what the order takes; 0 and no beside a
 // refusal.
-#[derive(Clone, Copy, PartialEq, Eq)]
+// No Result: it is the answer of an entry, and by document 01 zeros stand beside a refusal.
+#[derive(Clone, Copy)]
 pub struct SplitPrice {
     pub verdict: Verdict,
     pub price: Cents,
     pub meets: bool,
 }
 
-// For `bookanswers` too.
+// What the entries answer, from a record or a text.
 impl From<Result<(Cents, bool), Refusal>> for SplitPrice {
     ghost from_gives = { λ priced split. split ≡ split_told priced };
 

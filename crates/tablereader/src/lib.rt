@@ -9,6 +9,7 @@ use sampling::Table;
 use scanner::Reader;
 
 // The table of a text, or all zeros beside a refusal.
+// No Result: it is the answer of an entry, and by document 01 zeros stand beside a refusal.
 #[derive(Clone, Copy)]
 pub struct TableRead {
     pub verdict: Verdict,

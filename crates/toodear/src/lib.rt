@@ -14,13 +14,14 @@ use refusal::{Refusal, Rule, Verdict};
 
 // The smallest discount that wins, so many cents off each unit price, or `None` where no discount wins a blank; `None` also beside a
 // refusal.
-#[derive(Clone, Copy, PartialEq, Eq)]
+// No Result: it is the answer of an entry, and by document 01 `None` stands beside a refusal.
+#[derive(Clone, Copy)]
 pub struct TooDear {
     pub verdict: Verdict,
     pub discount: Option<CentsPerBlank>,
 }
 
-// For `tender` too.
+// What the entries answer, from a record or a text.
 impl From<Result<Option<CentsPerBlank>, Refusal>> for TooDear {
     ghost from_gives = { λ discount answer. answer ≡ too_dear_told discount };
 
