@@ -6,7 +6,7 @@
 #   edit   CLAIMS.md cites no must-fail edit that is not there, and its list of them is the one that tests/docs/edits.py makes; each edit
 #          says what it does and which function's contract, or which theorem, it guards; every public function of a library is guarded by
 #          two or more, where those of crates below count, and every entry that README.md lists by one or more of its own crate
-#   asks   CLAIMS.md lists every public function of a library that has a `requires`, and no other; no entry of README.md has one
+#   asks   CLAIMS.md lists every public function and method of a library that has a `requires`, and no other; no entry of README.md has one
 #   crate  ARCHITECTURE.md names every crate of crates.txt, and its table of groups no other
 #   same   where the last landing's note says that the contracts of the entries are those of a commit, they are, word for word
 #   layer  what is to be believed names nothing of proofs/: no definition of specs/ and no contract of src/, but for the exceptions below
@@ -278,6 +278,16 @@ def asking(crate):
     return [name for head in heads if "requires" in head for name in re.findall(r"fn (\w+)", head)[:1] if name in edits.public(crate)]
 
 
+def asking_methods(crate):
+    """The public methods of a library that have a `requires`, as Type::method."""
+    found = []
+    for path in glob.glob(f"crates/{crate}/src/**/*.rt", recursive=True):
+        for owner, body in re.findall(r"^impl(?:<[^{]*?>)? (\w+)[^\n]*\{\n(.*?)^\}", uncommented(path), re.S | re.M):
+            heads = re.findall(r"^    pub fn .*?^    \{$", body, re.S | re.M)
+            found += [f"{owner}::{name}" for head in heads if "requires" in head for name in re.findall(r"fn (\w+)", head)[:1]]
+    return [name for name in found if name in edits.public(crate)]
+
+
 def listed_asking():
     """The first column of the table `Function`, `What it asks`; a name without a crate is of the crate before it."""
     inside = False
@@ -290,7 +300,26 @@ def listed_asking():
             yield f"{crate}::{name.split('::')[-1]}"
 
 
+def listed_methods():
+    """The first column of the table `Method or operator`, `What it asks`: a type with its crate, and methods of it; operators have no name."""
+    inside = False
+    for _, line in parts(CLAIMS)[1]:
+        cells = [cell.strip() for cell in line.strip("|").split("|")]
+        inside = line.startswith("|") and (inside or cells[:2] == ["Method or operator", "What it asks"])
+        owner = ""
+        for name in re.findall(r"`([^`]+)`", cells[0] if inside else ""):
+            owner = name if "::" in name else owner
+            if "::" not in name and name[0].islower():
+                yield f"{owner}::{name}"
+
+
 def check_asks():
+    methods = {f"{crate}::{name}" for crate in edits.crates() for name in asking_methods(crate)}
+    for name in sorted(methods | set(listed_methods())):
+        crate, _, method = name.partition("::")
+        check(name in set(listed_methods()), CLAIMS, f"{name} asks something of its caller, and the table does not say it")
+        # What a trait's method asks stands in the trait.
+        check(name in methods or method not in edits.public(crate), CLAIMS, f"{name} asks nothing of its caller")
     there = {f"{crate}::{name}" for crate in edits.crates() for name in asking(crate)}
     listed = set(listed_asking())
     for name in sorted(there | listed):
