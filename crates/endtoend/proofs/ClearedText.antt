@@ -6,12 +6,11 @@ use mathlib.Core.Path.{◌≡◌, refl, sym, ap, ◌∙◌, subst}
 use lib.ListN.{length, get_or}
 use Rattle.std.specs.Prelude.{Ok, Err}
 use Rattle.refusal.specs.Verdict.{Verdict}
-use Rattle.refusal.specs.Verdict.{Accepted, Refused}
+use Rattle.refusal.specs.Verdict.{Accepted}
 use Rattle.refusal.proofs.Firsts.{refused_not}
 use Rattle.book.specs.declared.Book.{Book}
 use Rattle.book.specs.Rules.{book_verdict}
 use Rattle.book.specs.Entries.{BookEntries, book_entries}
-use Rattle.forms.specs.Shape.{answer}
 use Rattle.bookreader.specs.Reading.{read_of}
 use Rattle.sampling.specs.Entries.{TableEntries}
 use Rattle.roundtrip.proofs.Reading.{accepted_as}

@@ -4,7 +4,6 @@ use mathlib.Core.Path.{◌≡◌, refl}
 use Prim.Native.Nat.{ℕ}
 use Rattle.std.specs.Prelude.{Ok, Err}
 use Rattle.refusal.specs.Verdict.{Verdict}
-use Rattle.refusal.specs.Verdict.{Accepted, Refused}
 use Rattle.sampling.specs.Entries.{TableEntries}
 use Rattle.award.specs.declared.Award.{Award}
 use Rattle.bookanswers.specs.BookAnswers.{book_of}
