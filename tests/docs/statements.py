@@ -6,7 +6,8 @@
 #     directly above it
 #   - a theorem: its signature, without its proof; a function of the code: its signature and contract, without its body. Both without the
 #     comment above them, since the page has a reading of each
-#   - above what stands in a `module _ .. where`, that line, since it holds what the item is said of
+#   - above what stands in a `module _ .. where`, that line, since it holds what the item is said of; above a method, which is named with its
+#     type, as `Bid::listed`, the line of its `impl`
 # A line `..` shows that lines of the file are left out between two of these. `python3 tests/docs/statements.py` writes the page, from the
 # repository's top; tests/docs/check.py looks whether it is the one that stands there.
 import os
@@ -23,7 +24,8 @@ TOP = "<!-- Made by tests/docs/statements.py from STATEMENTS.in.md: that is the 
 # `f : ..` and `record R (x : A) : ..`, each after words like `pub`; an equation `f (some x) = λ (y : A). ..` declares nothing.
 DECLARED = re.compile(r"\s*(?P<words>(?:(?:pub|abbrev|unfoldable) )*)(?:(?P<kind>record|data) )?(?P<name>\S+)(?(kind)(?: .*)?|) :(?: |$)")
 MODULE = re.compile(r"\s*module ")
-CODE = re.compile(r"(?:pub )?(?:extern \"C\" )?(?P<kind>fn|struct|enum|const) (?P<name>\w+)")
+CODE = re.compile(r"(?P<in>    )?(?:pub )?(?:extern \"C\" )?(?P<kind>fn|struct|enum|const) (?P<name>\w+)")
+IMPL = re.compile(r"impl(?:<[^{]*?>)? (?:.+ for )?(?P<owner>\w+)")
 
 
 class Fault(Exception):
@@ -81,15 +83,22 @@ def stated(lines, specs):
 
 def coded(lines):
     """The same of the code; no lines of a function without a contract."""
+    above, owner = [], None
     for i, line in enumerate(lines):
-        declared = CODE.match(line)
-        if declared and declared["kind"] == "fn":
-            # After a contract the body begins on a line of its own.
-            end = first(lines, i, lambda l: l in ("{", "}"))
-            yield declared["name"], list(range(i, end)) if lines[end : end + 1] == ["{"] else []
-        elif declared:
-            end = i if line.endswith((";", "}")) else first(lines, i + 1, lambda l: l.strip() and indent(l) == 0)
-            yield declared["name"], whole(lines, i, end + 1)
+        block, declared = IMPL.match(line), CODE.match(line)
+        if block:
+            above, owner = [i], block["owner"]
+        elif line.startswith("}"):
+            above, owner = [], None
+        elif declared and bool(declared["in"]) == (owner is not None):
+            depth, name = declared["in"] or "", f"{owner}::{declared['name']}" if owner else declared["name"]
+            if declared["kind"] == "fn":
+                # After a contract the body begins on a line of its own.
+                end = first(lines, i, lambda l: l in (depth + "{", depth + "}"))
+                yield name, above + list(range(i, end)) if lines[end : end + 1] == [depth + "{"] else []
+            elif not owner:
+                end = i if line.endswith((";", "}")) else first(lines, i + 1, lambda l: l.strip() and indent(l) == 0)
+                yield name, whole(lines, i, end + 1)
 
 
 def quote(path, names):
