@@ -27,11 +27,11 @@ import edits
 import statements
 
 # The template is checked as the page that is made of it.
-PORT = "docs/PORT.md"
-PAGES = ["README.md"] + [page for page in sorted(glob.glob("docs/*.md")) if page not in (statements.TEMPLATE, PORT)]
-# The landing notes, and the page of the port, speak of the past: of them only links are checked, and paths written with docs/ or tests/ in
-# front.
-NOTES = [PORT] + sorted(glob.glob("docs/landings/*.md"))
+OF_THE_PAST = ["docs/PORT.md", "docs/DESIGN-PASS.md"]
+PAGES = ["README.md"] + [page for page in sorted(glob.glob("docs/*.md")) if page not in (statements.TEMPLATE, *OF_THE_PAST)]
+# The landing notes, and the pages of the port and of the design pass, speak of the past: of them only links are checked, and paths written
+# with docs/ or tests/ in front.
+NOTES = OF_THE_PAST + sorted(glob.glob("docs/landings/*.md"))
 
 passed = 0
 faults = []
