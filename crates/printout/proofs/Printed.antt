@@ -2,12 +2,7 @@
 use Prim.Native.Nat.{ℕ, ◌≤◌}
 use native.Mathlib.Omega.{arith}
 use mathlib.Core.List.{List}
-use mathlib.Core.Path.{◌≡◌, refl, ap, ap₂, ◌∙◌}
-use lib.ListN.{length, take}
-use Rattle.refusal.specs.Verdict.{Accepted}
-use Rattle.output.specs.declared.TextWritten.{TextWritten}
-use Rattle.output.proofs.Answers.{Answered, all_written_lem}
-use Rattle.clearing.specs.declared.Clearing.{Clearing}
+use lib.ListN.{length}
 use Rattle.awardwriter.specs.declared.Layout.{Layout}
 use Rattle.awardwriter.specs.declared.Layout.TheVariants.{Sheet, Page}
 use Rattle.awardwriter.specs.Layout.{layout_text}
