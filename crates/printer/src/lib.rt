@@ -37,7 +37,7 @@ impl<'a> Output<'a> {
     {
         let next = self.at + w.len();
         if next <= self.bytes.len() {
-            self.bytes[self.at..next].copy_from_slice(w);
+            lists::copy(&mut self.bytes[self.at..next], w);
         }
         self.at = next;
     }

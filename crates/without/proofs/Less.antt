@@ -5,9 +5,9 @@ use native.Mathlib.Omega.{arith}
 use mathlib.Core.List.{List, map, ◌++◌}
 use mathlib.Core.Path.{◌≡◌, ap, ap₂, sym, ◌∙◌}
 use lib.ListN.{length, take, drop, length-drop}
-use Rattle.std.specs.List.{copy_within}
-use Rattle.std.proofs.lemmas.List.{take-take, drop-take}
-use Rattle.std.proofs.lemmas.List.Edits.{take-paste}
+use borrow.Rule.Slice.PartMut.{put_mid}
+use Rattle.std.proofs.lemmas.List.{take-take, drop-take, length-take-le}
+use Rattle.std.proofs.lemmas.Slice.{take-put_mid}
 use Rattle.lists.proofs.Removed.{removed, map_removed}
 use Rattle.book.specs.declared.Bid.{Bid}
 use Rattle.book.specs.declared.Book.{Book}
@@ -18,18 +18,17 @@ module _ {A : Type 0} (xs : List A) (at n : ℕ) (h : at < n) (k : n ≤ length 
   abbrev later : ℕ
   later = n - (at + 1)
 
-  moved : take (n - 1) (copy_within xs (at + 1) n at) ≡ removed at (take n xs)
-  moved =
-      let left : n - 1 ≡ at + later = omega arith in
+  moved : (lent : ℕ) (ys : List A) → ys ≡ take later (drop (at + 1) xs) → take (n - 1) (put_mid at lent xs ys) ≡ removed at (take n xs)
+  moved lent ys e =
       let whole : n ≡ suc at + later = omega arith in
-      ap (λ (i : ℕ). take i (copy_within xs (at + 1) n at)) left
-      ∙ take-paste xs at (drop (at + 1) xs) later (omega arith) (omega (arith, length-drop (at + 1) xs))
+      let size : length ys ≡ later = ap length e ∙ length-take-le later (drop (at + 1) xs) (omega (arith, length-drop (at + 1) xs)) in
+      take-put_mid at lent xs ys (n - 1) (omega (arith, size)) (omega arith)
       ∙ ap₂ (λ (front back : List A). front ++ back) (sym (take-take at n xs (omega arith)))
-      (ap (λ (i : ℕ). take later (drop i xs)) (add-one at) ∙ sym (drop-take (suc at) later xs) ∙ ap (λ (i : ℕ). drop (suc at) (take i xs)) (sym whole))
+      (e ∙ ap (λ (i : ℕ). take later (drop i xs)) (add-one at) ∙ sym (drop-take (suc at) later xs) ∙ ap (λ (i : ℕ). drop (suc at) (take i xs)) (sym whole))
 
-pub less : (book : Book) (at : ℕ) (bids : List Bid) → at < book.count → book.count ≤ length book.bids → bids ≡ copy_within book.bids (at + 1) book.count at
-    → book_entries (record { order = book.order; count = book.count - 1; bids = bids }) ≡ book_without at (book_entries book)
+pub less : (book : Book) (at lent : ℕ) (later : List Bid) → at < book.count → book.count ≤ length book.bids
+    → later ≡ take (book.count - (at + 1)) (drop (at + 1) book.bids)
+    → book_entries (record { order = book.order; count = book.count - 1; bids = put_mid at lent book.bids later }) ≡ book_without at (book_entries book)
 unfolding book_without
-less book at bids h k e =
-    rw
-    (ap (map bid_entries) (ap (take (book.count - 1)) e ∙ moved book.bids at book.count h k) ∙ map_removed bid_entries at (take book.count book.bids))
+less book at lent later h k e =
+    rw (ap (map bid_entries) (moved book.bids at book.count h k lent later e) ∙ map_removed bid_entries at (take book.count book.bids))

@@ -16,7 +16,10 @@ fn book_without(book: Book, at: usize) -> Book
     ensures { book_entries result ≡ book_without at (book_entries book) }
 {
     let mut left = book;
-    left.bids.copy_within(at + 1..book.count, at);
+    lists::copy(
+        &mut left.bids[at..book.count - 1],
+        &book.bids[at + 1..book.count],
+    );
     left.count -= 1;
     left
 }

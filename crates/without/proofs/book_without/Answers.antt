@@ -1,4 +1,4 @@
--- The bids moved are those that the definition has.
+-- The bids copied a place forward are those that the definition has.
 use Rattle.std.proofs.Common.{◌≡◌, length, arith}
 use Rattle.lists.proofs.Slices.{length_held}
 use Rattle.without.proofs.Less.{less}
@@ -7,4 +7,4 @@ use Rattle.without.proofs.book_without.Goals as goal
 pub returns : goal.returns
 returns c =
     let eight : length c.args.book.bids ≡ 8 = search length_held in
-    less c.args.book c.args.at c.copy_within.new.self c.requires.within (omega (arith, c.requires.few)) c.copy_within.ensures.after
+    less c.args.book c.args.at _ c.copy.new.to c.requires.within (omega (arith, c.requires.few)) c.copy.ensures

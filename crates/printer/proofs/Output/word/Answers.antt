@@ -12,7 +12,7 @@ returns-clause-puts c =
     elim c.if-next-self.branch [
       | then-next-self w ↦ rw w.self-is
           (puts_stored out c.args.w.now _ _ w.if-next-self.true
-          (refl, written_part out.bytes.now out.at _ c.args.w.now _ (omega arith) w.copy_from_slice.ensures.after))
+          (refl, written_part out.bytes.now out.at _ c.args.w.now _ (omega arith) w.copy.ensures))
       | else-next-self w ↦ rw w.self-is (puts_past out c.args.w.now _ refl w.if-next-self.false)
     ]
 
@@ -22,6 +22,6 @@ returns-clause-out_after c =
     elim c.if-next-self.branch [
       | then-next-self w ↦ rw w.self-is
           (placed_put out.bytes.now out.at c.args.w.now _ _ w.if-next-self.true
-          (refl, λ _. written_part out.bytes.now out.at _ c.args.w.now _ (omega arith) w.copy_from_slice.ensures.after))
+          (refl, λ _. written_part out.bytes.now out.at _ c.args.w.now _ (omega arith) w.copy.ensures))
       | else-next-self w ↦ rw w.self-is (placed_not out.bytes.now out.at c.args.w.now w.if-next-self.false)
     ]
