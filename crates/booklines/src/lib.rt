@@ -38,14 +38,13 @@ fn bid(reader: &mut Reader<'_>) -> Result<Bid, Stop>
 }
 
 // The book with a bid more.
-fn with_next(reader: &mut Reader<'_>, book: Book) -> Result<Book, Stop>
+fn with_next(reader: &mut Reader<'_>, mut book: Book) -> Result<Book, Stop>
     requires { book.count ≤ reader.now.at }
     ensures { ScansAs Form.bid (with_read_bid book) reader.old result reader.new }
 {
-    let mut more = book;
     let next = bid(reader)?;
-    bookrecord::add_bid(&mut more, next);
-    Ok(more)
+    bookrecord::add_bid(&mut book, next);
+    Ok(book)
 }
 
 // One or more bids, added to the record of a head.

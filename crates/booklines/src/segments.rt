@@ -23,14 +23,13 @@ fn segment(reader: &mut Reader<'_>) -> Result<Segment, Stop>
 }
 
 // The bid with a segment more.
-fn with_next(reader: &mut Reader<'_>, bid: Bid) -> Result<Bid, Stop>
+fn with_next(reader: &mut Reader<'_>, mut bid: Bid) -> Result<Bid, Stop>
     requires { bid.count ≤ reader.now.at }
     ensures { ScansAs Form.segment (with_segment bid) reader.old result reader.new }
 {
-    let mut more = bid;
     let next = segment(reader)?;
-    bookrecord::add_segment(&mut more, next);
-    Ok(more)
+    bookrecord::add_segment(&mut bid, next);
+    Ok(bid)
 }
 
 // One or more segments, added to the record of a bid that has none.

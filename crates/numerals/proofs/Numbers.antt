@@ -14,6 +14,7 @@ use Rattle.forms.proofs.DigitTests.{goes}
 use Rattle.forms.proofs.Number.{first_high}
 use Rattle.scanner.specs.declared.Reader.{Reader}
 use Rattle.scanner.specs.Scans.{Scans}
+use Rattle.scanner.proofs.Scanned.{same_bytes}
 use Rattle.numerals.specs.Digits.{digit_if}
 
 -- a digit that was found is the next byte
@@ -78,17 +79,17 @@ module _ (least : ℕ) (from : Reader) where
     same_text = refl;
     parsed =
         let z : 0 ≡ from.at - from.at = omega arith in
-        record { finds = none_begins least (drop from.at t) e ∙ ap (λ (k : ℕ). stopped k) z; from = omega arith; to = from.inside };
+        (record { finds = none_begins least (drop from.at t) e ∙ ap (λ (k : ℕ). stopped k) z; from = omega arith; to = from.inside }, refl);
   }
 
   -- the digits of v stand from the reader's first place on up to its place now
   pub record Digits (v : ℕ) (now : Reader) : Type 0 where
-    pub same_text : now.text.now ≡ t
+    pub same_text : now.text ≡ from.text
     pub further_on : from.at < now.at
     pub few : v < 10000000000000
     pub same : number_parse least (drop from.at t) ≡ further v (drop now.at t)
 
-  pub number_first : (d : ℕ) → digit_if (is_first least) (drop from.at t) ≡ Some d → (next : Reader) → next.text.now ≡ t → next.at ≡ from.at + 1
+  pub number_first : (d : ℕ) → digit_if (is_first least) (drop from.at t) ≡ Some d → (next : Reader) → next.text ≡ from.text → next.at ≡ from.at + 1
       → Digits d next
   number_first d e next same_text place =
       let n = next_digit (is_first least) (drop from.at t) d e in
@@ -102,7 +103,7 @@ module _ (least : ℕ) (from : Reader) where
 
   module _ (v : ℕ) (now : Reader) (l : Digits v now) where
     here : {A : Type 0} (f : List ℕ → A) (a : A) → f (drop now.at now.text.now) ≡ a → f (drop now.at t) ≡ a
-    here f a e = ap (λ (s : List ℕ). f (drop now.at s)) (sym l.same_text) ∙ e
+    here f a e = ap (λ (s : List ℕ). f (drop now.at s)) (sym (same_bytes l.same_text)) ∙ e
 
     pub number_done : digit_if (goes_on v) (drop now.at now.text.now) ≡ None → Scans (number least) from (Ok v) now
     number_done e = record {
@@ -110,11 +111,11 @@ module _ (least : ℕ) (from : Reader) where
       parsed = record {
         finds = l.same ∙ number_ends v (drop now.at t) (here (digit_if (goes_on v)) None e);
         from = omega (arith, l.further_on);
-        to = omega (arith, now.inside, ap length l.same_text);
+        to = omega (arith, now.inside, ap length (same_bytes l.same_text));
       };
     }
 
-    pub number_goes : (d : ℕ) → digit_if (goes_on v) (drop now.at now.text.now) ≡ Some d → (next : Reader) → next.text.now ≡ now.text.now
+    pub number_goes : (d : ℕ) → digit_if (goes_on v) (drop now.at now.text.now) ≡ Some d → (next : Reader) → next.text ≡ now.text
         → next.at ≡ now.at + 1
         → Digits (v * 10 + d) next
     number_goes d e next same_text place =

@@ -20,7 +20,7 @@ use Rattle.scanner.specs.declared.Reader.{Reader}
 use Rattle.scanner.specs.declared.Stop.{Stop}
 use Rattle.scanner.specs.Scans.{Parsed, Scans, ok_as, ScansAs}
 use Rattle.scanner.specs.Items.{ParsedBy, Going, Further, OneOrMore, none, breaks_off, one_more, first_breaks_off, first_then}
-use Rattle.scanner.proofs.Scanned.{scans_first, scans_then, scans_via}
+use Rattle.scanner.proofs.Scanned.{same_bytes, scans_first, scans_then, scans_via}
 
 -- items of a form, each of which begins with the byte x, and the record to which they are added, one after the other
 pub record Listing (A R : Type 0) : Type 1 where
@@ -47,12 +47,12 @@ module _ {A R : Type 0} (list : Listing A R) where
       → Scans M here (ok_as (λ xs. a ∷ xs) y) next
   item_first here begins a mid s y next m = record {
     same_text = m.same_text ∙ s.same_text;
-    parsed = go y (subst (λ (t : List ℕ). Parsed M t mid.at y next.at) s.same_text m.parsed);
+    parsed = go y (subst (λ (t : List ℕ). Parsed M t mid.at y next.at) (same_bytes s.same_text) m.parsed);
   }
     where
       go : (y : Result (List A) Stop) → Parsed M here.text.now mid.at y next.at → Parsed M here.text.now here.at (ok_as (λ xs. a ∷ xs) y) next.at
       go (Ok xs) m = item_then list.x list.form list.laws list.heads here.text.now here.at begins s.parsed m
-      go (Err stop) m = item_then_stops list.x list.form list.laws list.heads here.text.now here.at begins s.parsed m
+      go (Err stop) m = (item_then_stops list.x list.form list.laws list.heads here.text.now here.at begins s.parsed m.0, m.1)
 
   module _ {F : Type 0} (g : Shared F (MutBor Reader × (R × Unit {0})) (Result R Stop × (MutBor Reader × Unit {0}))) (f : F)
       (steps : (k : R) (from : Reader) (result : Result R Stop) (next : Reader) → ParsedBy g f k from result next
@@ -63,7 +63,7 @@ module _ {A R : Type 0} (list : Listing A R) where
         ([], refl, record { same_text = refl; parsed = no_items list.x list.form list.laws list.heads here.text.now here.at here.inside q })
     more_scanned k here result next (breaks_off {stop = stop} q b) =
         let s = steps k here (Err stop) next b in
-        record { same_text = s.same_text; parsed = item_stops list.x list.form list.laws list.heads here.text.now here.at q s.parsed }
+        record { same_text = s.same_text; parsed = (item_stops list.x list.form list.laws list.heads here.text.now here.at q s.parsed.0, s.parsed.1) }
     more_scanned k here result next (one_more {s = s} {mid = mid} q b more) =
         one result (steps k here (Ok s) mid b) (more_scanned s mid result next more)
       where
@@ -117,7 +117,7 @@ module _ {A R : Type 0} (list : Listing A R) (count : R → ℕ) (counts : (k : 
   counted : (k s : R) (from next : Reader) → ScansAs list.form (list.add k) from (Ok s) next → count k ≤ from.at → Counted from s next
   counted k s from next item few =
       let m = item_moves list from item.0 next item.2 in
-      record { same_text = item.2.same_text; moves = m; few = omega (arith, m, ap count item.1, counts k item.0) }
+      record { same_text = same_bytes item.2.same_text; moves = m; few = omega (arith, m, ap count item.1, counts k item.0) }
 
   pub counted_on : {F : Type 0} {g : Shared F (MutBor Reader × (R × Unit {0})) (Result R Stop × (MutBor Reader × Unit {0}))} {f : F} {k s : R} {from next : Reader}
       (b : ParsedBy g f k from (Ok s) next)

@@ -13,6 +13,7 @@ use Rattle.forms.specs.Tests.{starts_with}
 use Rattle.forms.specs.Word.{word_parse, word}
 use Rattle.scanner.specs.declared.Reader.{Reader}
 use Rattle.scanner.specs.Scans.{Scans}
+use Rattle.scanner.proofs.Scanned.{same_bytes}
 
 abbrev on : ℕ → Parse (Unit {0}) → Parse (Unit {0})
 on k = after k (λ x. x)
@@ -31,7 +32,7 @@ module _ (w : List ℕ) (from : Reader) where
 
   -- the first i bytes of w stand in the text from the reader's first place on
   pub record Along (i : ℕ) (now : Reader) : Type 0 where
-    pub same_text : now.text.now ≡ t
+    pub same_text : now.text ≡ from.text
     pub place : now.at ≡ from.at + i
     pub in_word : i ≤ length w
     pub same : word_parse w (drop from.at t) ≡ on i (word_parse (drop i w) (drop now.at t))
@@ -41,7 +42,7 @@ module _ (w : List ℕ) (from : Reader) where
 
   module _ (i : ℕ) (now : Reader) (l : Along i now) where
     within : now.at ≤ length t
-    within = omega (arith, now.inside, ap length l.same_text)
+    within = omega (arith, now.inside, ap length (same_bytes l.same_text))
 
     -- the word has been compared
     pub along_done : length w ≤ i → Scans (word w) from (Ok tt) now
@@ -65,14 +66,16 @@ module _ (w : List ℕ) (from : Reader) where
       along_stop e = record {
         same_text = l.same_text;
         parsed =
-            let z : i + 0 ≡ now.at - from.at = omega (arith, l.place) in
-            record {
-              finds = l.same ∙ ap (λ (v : List ℕ). on i (word_parse v (drop now.at t))) here
-                  ∙ ap (on i) (go (drop now.at t) (ap (λ (s : List ℕ). starts_with (get_or w i 0) (drop now.at s)) (sym l.same_text) ∙ e))
-                  ∙ ap (λ (k : ℕ). stopped k) z;
-              from = omega (arith, l.place);
-              to = within;
-            };
+            let z : i + 0 ≡ now.at - from.at = omega (arith, l.place) in (
+              record {
+                finds = l.same ∙ ap (λ (v : List ℕ). on i (word_parse v (drop now.at t))) here
+                    ∙ ap (on i) (go (drop now.at t) (ap (λ (s : List ℕ). starts_with (get_or w i 0) (drop now.at s)) (sym (same_bytes l.same_text)) ∙ e))
+                    ∙ ap (λ (k : ℕ). stopped k) z;
+                from = omega (arith, l.place);
+                to = within;
+              },
+              refl,
+            );
       }
         where
           go : (s : List ℕ) → starts_with (get_or w i 0) s ≡ false → word_parse (get_or w i 0 ∷ drop (suc i) w) s ≡ stopped 0
@@ -86,7 +89,7 @@ module _ (w : List ℕ) (from : Reader) where
       same_byte [] q = absurd (true≢false (sym q))
       same_byte (b ∷ s) q = rw q
 
-      pub along_next : (next : Reader) → next.text.now ≡ now.text.now → next.at ≡ now.at + 1
+      pub along_next : (next : Reader) → next.text ≡ now.text → next.at ≡ now.at + 1
           → starts_with (get_or w i 0) (drop now.at now.text.now) ≡ true → Along (i + 1) next
       along_next next same_text further e = record {
         same_text = same_text ∙ l.same_text;
@@ -95,7 +98,7 @@ module _ (w : List ℕ) (from : Reader) where
         same =
             l.same
             ∙ ap (λ (v : List ℕ). on i (word_parse v (drop now.at t))) here
-            ∙ ap (on i) (same_byte (drop now.at t) (ap (λ (s : List ℕ). starts_with (get_or w i 0) (drop now.at s)) (sym l.same_text) ∙ e))
+            ∙ ap (on i) (same_byte (drop now.at t) (ap (λ (s : List ℕ). starts_with (get_or w i 0) (drop now.at s)) (sym (same_bytes l.same_text)) ∙ e))
             ∙ on_on i (word_parse (drop (suc i) w) (drop 1 (drop now.at t)))
             ∙ ap₂ (λ (j : ℕ) (s : List ℕ). on (i + 1) (word_parse (drop j w) s)) (sym (add-one i))
             (drop-drop 1 now.at t ∙ ap (λ (k : ℕ). drop k t) (sym further));

@@ -11,14 +11,14 @@ first_of [] = None
 first_of (b ∷ r) = Some b
 
 module _ {A : Type 0} (p : Form A) where
-  -- From the place i on: the text of a value, up to the place e, or no text of p, and the place where parsing stopped.
+  -- From the place i to the place e: the text of a value, or no text of p, and e is where parsing stopped.
   abbrev pub Parsed : List ℕ → ℕ → Result A Stop → ℕ → Type 0
   Parsed t i (Ok a) e = Found p t i a e
-  Parsed t i (Err stop) e = Stops p t i stop.at
+  Parsed t i (Err stop) e = Stops p t i stop.at × (e ≡ stop.at)
 
-  -- in the reader's text, from its place to its new one
+  -- in the reader's text, which it keeps, from its place to its new one
   pub record Scans (from : Reader) (result : Result A Stop) (next : Reader) : Type 0 where
-    pub same_text : next.text.now ≡ from.text.now
+    pub same_text : next.text ≡ from.text
     pub parsed : Parsed from.text.now from.at result next.at
 
 -- the same, said of another value

@@ -26,8 +26,8 @@ impl From<Stop> for Refusal {
     }
 }
 
-// The text that is being parsed, and the place of its next byte. After a Stop it is not parsed on. A slice and a place, as document 01 has
-// it; the place is also that of a refusal.
+// The text that is being parsed, and the place of its next byte: after a Stop the place where parsing stopped, and it is not parsed on. A slice
+// and a place, as document 01 has it.
 #[derive(Drop)]
 pub struct Reader<'a> {
     pub text: &'a [u8],

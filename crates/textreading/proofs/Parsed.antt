@@ -37,7 +37,7 @@ module _ {A R C : Type 0} (k : Kind A R C) (t : List ℕ) where
 
     pub stopped : (stop : Stop) → Scans k.form from (Err stop) next → Given (record { rule = Shape; place = stop.at })
     stopped stop s =
-        let stops : Stops k.form t 0 stop.at = rw (text, start) at s.parsed in
+        let stops : Stops k.form t 0 stop.at = rw (text, start) at s.parsed.0 in
         text_refused k t Shape stop.at (read_stopped k t few stop.at stops) (record { rule = Shape; place = stop.at }) refl
 
     module _ (r : R) (lines : ScansAs k.form k.record_of from (Ok r) next) where
