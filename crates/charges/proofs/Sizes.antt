@@ -48,6 +48,14 @@ up_to_small k x h u = record {
   charges = record { first = omega (arith, u.first); second = omega (arith, u.second) };
 }
 
+pub up_to_with : (j k : ℕ) (x y : Sums) → UpTo j x → UpTo k y → UpTo (j + k + 1) (sums_with x y)
+up_to_with j k x y a b = record {
+  low = omega (arith, a.low, b.low);
+  high = omega (arith, a.high, b.high);
+  first = omega (arith, a.first, b.first);
+  second = omega (arith, a.second, b.second);
+}
+
 -- A choice: its sums, and how large they are.
 
 charges_small : (order : Order) (l : ℕ) (c : List Segment) → All SoundSegment c → l ≤ highest → charges order l c ≤ most_charge * length c

@@ -25,7 +25,10 @@ use Rattle.choicerecord.specs.declared.Choice.{Choice}
 use Rattle.choicerecord.specs.Records.{segment_at, first_segments, chosen}
 use Rattle.comparison.specs.Records.{blanks_in}
 
--- with the start an extra is no more than the end
+-- an extra is no more than what is left, and with the start no more than the end
+pub extra_left : (left : ℕ) (s : Segment) (c : List Segment) → extra left s c ≤ left
+extra_left left s c = omega arith
+
 extra_end : (left : ℕ) (s : Segment) (c : List Segment) → s.start.0 ≤ s.end.0 → s.start.0 + extra left s c ≤ s.end.0
 unfolding width
 extra_end left s c h = omega arith

@@ -3,10 +3,10 @@
 use Prim.Native.Nat.{ℕ, zero, suc, ◌+◌, ◌-◌, ◌≤◌, ◌<◌}
 use native.Mathlib.Nat.{le_of_suc-le-suc, not-suc-le-zero}
 use native.Mathlib.Omega.{arith}
-use mathlib.Core.Bool.{true, ◌&&◌}
+use mathlib.Core.Bool.{Bool, true, false, ◌&&◌, false≢true}
 use mathlib.Core.List.{List, [], ◌∷◌}
-use mathlib.Core.Path.{◌≡◌, refl, ap, ◌∙◌}
-use borrow.Author.Tests.{ltb-true, leb-true}
+use mathlib.Core.Path.{◌≡◌, refl, sym, ap, ◌∙◌}
+use borrow.Author.Tests.{ltb-true, leb-true, lt-ltb, le-leb}
 use lib.Dec.{leb, ltb}
 use lib.ListN.{length, get_or, take}
 use lib.Seq.{slice, get_or-take, length-take-le}
@@ -73,6 +73,30 @@ band_kept before b e =
       within_lowest = leb-true _ _ (both_right never_falls _ e);
     }
 
+kept_band : (before b : Band) → Kept before b → band_keeps before b ≡ true
+unfolding band_keeps
+kept_band before b k =
+    rw (
+      lt-ltb _ _ k.rises,
+      le-leb _ _ k.highest_most,
+      le-leb _ _ k.sample_least,
+      le-leb _ _ k.sample_most,
+      le-leb _ _ k.never_falls,
+      le-leb _ _ k.within_lowest,
+    )
+
+-- an answer that is true exactly where the band keeps all of that
+pub decides : (before b : Band) (answer : Bool) → (answer ≡ true → Kept before b) → (Kept before b → answer ≡ true) → answer ≡ band_keeps before b
+decides before b true keeps kept = sym (kept_band before b (keeps refl))
+decides before b false keeps kept = go (band_keeps before b) refl
+  where
+    go : (t : Bool) → band_keeps before b ≡ t → false ≡ t
+    go true e = kept (band_kept before b e)
+    go false e = refl
+
+pub breaks : (before b : Band) → (Kept before b → ⊥) → false ≡ band_keeps before b
+breaks before b broken = decides before b false (λ e. absurd (false≢true e)) (λ k. absurd (broken k))
+
 -- the first band on its line, and then the others
 module _ (line : ℕ) (before b : Band) (bs : List Band) (accepted : bands_verdict line before (b ∷ bs) ≡ Accepted) where
   lines : All (λ v. v ≡ Accepted) (unless (band_keeps before b) SamplingTable line ∷ bands_verdict (line + 1) b bs ∷ [])
@@ -104,3 +128,10 @@ last_held bs n some held =
     let counted : length (take n bs) ≡ suc (n - 1) = omega (arith, length-take-le n bs held) in
     last_at (band 0 0) (take n bs)
     ∙ rw counted (ap (λ (b : Band). b.highest) (get_or-take n bs (n - 1) (band 0 0) (omega arith)))
+
+-- of accepted bands, at most 1,000,000
+pub last_most : (line : ℕ) (before : Band) (bs : List Band) → bands_verdict line before bs ≡ Accepted → before.highest ≤ 1000000
+    → last_highest before.highest bs ≤ 1000000
+unfolding last_highest
+last_most line before [] e h = h
+last_most line before (b ∷ bs) e h = last_most (line + 1) b bs (later_lines line before b bs e) (first_kept line before b bs e).highest_most

@@ -1,3 +1,4 @@
+pub mod Bytes
 pub mod Scanned
 pub mod Three
 mod Words
