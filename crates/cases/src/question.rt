@@ -1,45 +1,38 @@
-// Standard input: cases, which begin after a `%`, each a line and the text after it.
+// Standard input: cases, which begin after a byte `%`, each a line and the bytes after it.
 ghost use Rattle.std.specs.Prelude.{◌<◌};
 
-use std::alloc::{AllocError, Global};
+use crate::numbers::Numbers;
 
+// What stands in the input from a case on.
 #[derive(Clone, Copy)]
 pub struct Case<'a> {
-    pub line: &'a str,
-    pub body: &'a str,
+    pub rest: &'a [u8],
 }
 
-// A line's first word, the text that the case is about, and the numbers after the word.
+// What a line asks, by its first byte, the bytes that it is about, and the numbers of the line.
 #[derive(Clone, Copy)]
 pub struct Question<'a> {
-    pub word: &'a str,
-    pub body: &'a str,
-    pub numbers: &'a [u64],
+    pub kind: u8,
+    pub body: &'a [u8],
+    pub numbers: &'a Numbers,
 }
 
 impl<'a> Case<'a> {
-    pub fn of(text: &'a str) -> Case<'a> {
-        let (line, body) = text.split_once('\n').unwrap_or((text, ""));
-        Case { line, body }
+    // The first byte, 0 where there is none.
+    pub fn kind(self) -> u8 {
+        self.rest.first().copied().unwrap_or(0)
     }
 
-    // What is asked: a name may follow it, after a colon.
-    fn asked(self) -> &'a str {
-        self.line.split(':').next().unwrap_or("")
+    // The line, without its end.
+    pub fn line(self) -> &'a [u8] {
+        self.rest.split(|b| *b == b'\n').next().unwrap_or(&[])
     }
 
-    // The first word.
-    pub fn word(self) -> &'a str {
-        self.asked().split(' ').next().unwrap_or("")
-    }
-
-    // The words after it, as numbers; one that is no number counts as 0.
-    pub fn numbers(self, alloc: Global) -> Result<Vec<u64>, AllocError> {
-        self.asked()
-            .split(' ')
-            .skip(1)
-            .map(|word| word.parse().unwrap_or(0))
-            .collect(alloc)
+    // The bytes after it, as far as the next `%`.
+    pub fn body(self) -> &'a [u8] {
+        let mut parts = self.rest.splitn(2, |b| *b == b'\n');
+        let after = parts.nth(1).unwrap_or(&[]);
+        after.split(|b| *b == b'%').next().unwrap_or(&[])
     }
 }
 
@@ -48,7 +41,6 @@ impl Question<'_> {
     pub fn size(&self) -> usize
         ensures { result < 600 }
     {
-        let size = self.numbers.first().copied().unwrap_or(0);
-        (size % 600) as usize
+        (self.numbers.all[1] % 600) as usize
     }
 }

@@ -27,11 +27,15 @@ pub fn bytes(rt: &HostRuntime, bytes: &[u8]) -> io::Result<()> {
     rt.stdout().write_all(bytes)
 }
 
+pub fn line(rt: &HostRuntime, words: &[u8]) -> io::Result<()> {
+    bytes(rt, words)?;
+    bytes(rt, b"\n")
+}
+
 // What a writer answered, and the whole output.
 pub fn output(rt: &HostRuntime, written: TextWritten, out: &[u8]) -> io::Result<()> {
     println!(rt; "{}, {}", Shown(written.verdict), written.bytes)?;
-    bytes(rt, out)?;
-    bytes(rt, b"\n")
+    line(rt, out)
 }
 
 // The bytes of a book's text, its choices of segments, and the most bytes of its sheet.

@@ -10,15 +10,15 @@ const BOOK: &[u8] =
     b"(demand 120 0)\n(bid 3 0 (seg 1 60 400 0) (seg 61 100 350 -500))\n(bid 8 0 (seg 20 80 380 1000))\n(bid 12 0 (seg 120 120 370 0))\n";
 
 pub fn answer(rt: &HostRuntime, question: Question, out: &mut [u8]) -> io::Result<()> {
-    let table = question.body.as_bytes();
-    match question.word {
-        "load" => printed(rt, table, BOOK),
-        "other" => printed(rt, table, b"(demand 0 0)\n"),
-        "write" => {
+    let table = question.body;
+    match question.kind {
+        b'l' => printed(rt, table, BOOK),
+        b'o' => printed(rt, table, b"(demand 0 0)\n"),
+        b'w' => {
             let written = tender::write_table(table, out);
             show::output(rt, written, out)
         }
-        _ => sample(rt, table, question.numbers),
+        _ => sample(rt, table, question.numbers.quantities()),
     }
 }
 

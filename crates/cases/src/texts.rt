@@ -9,20 +9,20 @@ use refusal::Rule;
 use std::io;
 
 pub fn answer(rt: &HostRuntime, question: Question, out: &mut [u8]) -> io::Result<()> {
-    let text = question.body.as_bytes();
-    match question.word {
-        "text" => printed(rt, text),
-        "figures" => show::figures(rt, tender::sizes(text)),
-        "price" => show::price(rt, tender::price_split(text, question.numbers)),
-        "award" => {
+    let text = question.body;
+    match question.kind {
+        b't' => printed(rt, text),
+        b'f' => show::figures(rt, tender::sizes(text)),
+        b'p' => show::price(rt, tender::price_split(text, question.numbers.quantities())),
+        b'a' => {
             let written = tender::sheet(text, out);
             show::output(rt, written, out)
         }
-        "onpage" => {
+        b'o' => {
             let written = tender::page(text, out);
             show::output(rt, written, out)
         }
-        "write" => {
+        b'w' => {
             let written = tender::write(text, out);
             show::output(rt, written, out)
         }
