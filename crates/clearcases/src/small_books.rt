@@ -1,7 +1,7 @@
 // Small books made by a fixed rule: demands from 1 to 8, allowances from 0 to 3 as far as both together are at most 8, one to
 // three bids of one to three segments, with carriages from 0 to 3.
 // The rule takes several small numbers from each number of a row by division and remainder.
-ghost use Rattle.std.specs.Prelude.{◌+◌, ◌≤◌, length};
+ghost use Rattle.std.specs.Prelude.{◌+◌, ◌*◌, ◌≤◌, max, length};
 
 use book::{Bid, Book, Order, Segment};
 use money::{Blanks, Cents, CentsPerBlank};
@@ -126,7 +126,9 @@ fn segment(x: u64, before: u8) -> SmallSegment
 }
 
 // All, one or none of the blanks up to a start.
-fn some(x: u64, start: u8) -> u8 {
+fn some(x: u64, start: u8) -> u8
+    ensures { result ≤ max start 1 }
+{
     match x {
         0 => start,
         1 => 1,
@@ -136,7 +138,7 @@ fn some(x: u64, start: u8) -> u8 {
 
 // What blanks cost at a unit price or a carriage from 0 to 3, as a sum: only the price rule multiplies.
 pub fn cost(unit: u8, blanks: u8) -> u16
-    ensures { result ≤ 765 }
+    ensures { result ≤ 3 * blanks }
 {
     let blanks = u16::from(blanks);
     match unit {
