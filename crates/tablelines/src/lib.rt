@@ -40,14 +40,13 @@ fn band(reader: &mut Reader<'_>) -> Result<Band, Stop>
 }
 
 // The table with a band more.
-fn with_next(reader: &mut Reader<'_>, table: Table) -> Result<Table, Stop>
+fn with_next(reader: &mut Reader<'_>, mut table: Table) -> Result<Table, Stop>
     requires { table.count ≤ reader.now.at }
     ensures { ScansAs Form.band_line (with_band table) reader.old result reader.new }
 {
-    let mut more = table;
     let next = band(reader)?;
-    add_band(&mut more, next);
-    Ok(more)
+    add_band(&mut table, next);
+    Ok(table)
 }
 
 // One or more bands, added to the record of none.
