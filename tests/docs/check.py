@@ -27,10 +27,10 @@ import edits
 import statements
 
 # The template is checked as the page that is made of it.
-OF_THE_PAST = ["docs/PORT.md", "docs/DESIGN-PASS.md"]
+OF_THE_PAST = ["docs/PORT.md", "docs/DESIGN-PASS.md", "docs/LOOK-BACK.md"]
 PAGES = ["README.md"] + [page for page in sorted(glob.glob("docs/*.md")) if page not in (statements.TEMPLATE, *OF_THE_PAST)]
-# The landing notes, and the pages of the port and of the design pass, speak of the past: of them only links are checked, and paths written
-# with docs/ or tests/ in front.
+# The landing notes, and the pages of the port, the design pass and the look back, speak of the past: of them only links are checked, and paths
+# written with docs/ or tests/ in front.
 NOTES = OF_THE_PAST + sorted(glob.glob("docs/landings/*.md"))
 
 passed = 0
