@@ -1,8 +1,8 @@
 // Numbers that stand in bytes.
 ghost use Rattle.std.specs.Prelude.{◌<◌};
 
-// The words before the first `:`, as numbers, each at its place: in a row of 27, and after a line end in the next. A word that is no
-// number counts as 0, as a byte of it that is no digit drops what stands before it.
+// The words before the first `:`, as numbers, each at its place: in a row of 27, and after a line end in the next. In a word a byte that is
+// no digit sets the number to 0 again, a `-` to a negative one.
 #[derive(Clone, Copy)]
 pub struct Numbers {
     pub all: [u64; 270],
@@ -36,7 +36,7 @@ impl Numbers {
         self.last = place;
     }
 
-    // Those after the first word, which is the place of the last.
+    // The numbers after the first word, up to the last.
     pub fn quantities(&self) -> &[u64] {
         let all = &self.all[..];
         &all[1..self.last + 1]
